@@ -1,0 +1,11 @@
+-- What a reader must believe, in the order in which 01 tells it.
+pub mod Events
+pub mod Sides
+pub mod Joined
+pub mod Converters
+pub mod Actl
+pub mod Formulas
+pub mod Designs
+pub mod Positions
+pub mod Judged
+pub mod Runs
