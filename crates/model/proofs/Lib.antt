@@ -9,3 +9,6 @@ pub mod Graph
 pub mod Labelling
 pub mod Right
 pub mod Maps
+pub mod StateKinds
+pub mod Joint
+pub mod Alone
