@@ -12,3 +12,9 @@ pub mod Maps
 pub mod StateKinds
 pub mod Joint
 pub mod Alone
+pub mod Untils
+pub mod Masks
+pub mod Strategy
+pub mod Game
+pub mod Truths
+pub mod Covers
