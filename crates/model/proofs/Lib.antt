@@ -2,6 +2,9 @@
 pub mod Bools
 pub mod Lists
 pub mod Count
+pub mod Finite
+pub mod Sets
+pub mod Subsets
 pub mod Grow
 pub mod Shape
 pub mod Value
@@ -13,8 +16,10 @@ pub mod StateKinds
 pub mod Joint
 pub mod Alone
 pub mod Untils
+pub mod Kept
 pub mod Masks
 pub mod Strategy
 pub mod Game
 pub mod Truths
 pub mod Covers
+pub mod Built

@@ -6,7 +6,7 @@ use mathlib.Core.List.{List, [], _∷_, map, List·Memᴰ as In, List·Memᴰ·h
 use Prim.Native.Nat.{ℕ, zero, suc, _<_}
 use native.Mathlib.Omega.{arith}
 use native.Mathlib.Nat.{not-suc-le-zero}
-use lib.Dec.{T}
+use lib.Dec.{T, eqb, eqb→eq, eqb-refl}
 use lib.ListN.{length, getD}
 use Rattle.model.specs.Positions.{any}
 use Rattle.model.specs.Judged.{all}
@@ -58,6 +58,13 @@ getD-in (x ∷ xs) (suc j) d h = there (getD-in xs j d (omega arith))
 pub index-in : {A : Type 0} (d : A) {a : A} {l : List A} → In a l → (j : ℕ) × (j < length l) × (getD l j d ≡ a)
 index-in d (here e) = (0, omega arith, sym e)
 index-in d (there i) = let r = index-in d i in let h : r .0 < _ = r .1 in (suc (r .0), omega arith, r .2)
+
+-- the test of a number against each of a list is membership
+pub in-list : {n : ℕ} {l : List ℕ} → In n l → T (any (eqb n) l)
+in-list {n} i = in-any (eqb n) i (eqb-refl n)
+
+pub list-in : (n : ℕ) (l : List ℕ) → T (any (eqb n) l) → In n l
+list-in n l t = let w = any-in (eqb n) l t in subst⁻¹ (λ (x : ℕ). In x l) (eqb→eq n (w .0) (w .2)) (w .1)
 
 -- ---- the image of a list
 pub in-map : {A B : Type 0} (f : A → B) {a : A} {l : List A} → In a l → In (f a) (map f l)

@@ -11,7 +11,7 @@ use lib.Dec.{T, T-not, not-T, eqb, eqb→eq}
 use lib.ListN.{length, getD}
 use Rattle.model.specs.Events.{Event, tick, sent, shown}
 use Rattle.model.specs.Sides.{Move, State, Side, state, no-move, Kind, input, output-only, delayed, IsInput, IsOutputOnly, IsDelayed, IsKind, any-sent, kind, WellFormedState, HasKind, WellFormedSide}
-use Rattle.model.proofs.Bools.{or-either, or-left, or-right, T-dec, false-of, true-of}
+use Rattle.model.proofs.Bools.{or-either, or-left, or-right, T-dec, T-false, T-true}
 use Rattle.model.proofs.Lists.{index-in, first-in}
 
 -- ---- `any-sent`
@@ -33,12 +33,12 @@ any-unsent (x ∷ xs) h t =
 -- ---- each of 01's three kinds is what `kind` says
 pub kind-input : (q : State) → IsInput q → kind q ≡ input
 unfolding kind
-kind-input q h = ap (λ (b : Bool). cond b (cond (eqb (length (q .moves)) 1) output-only delayed) input) (false-of (any-sent (q .moves)) (any-unsent (q .moves) h))
+kind-input q h = ap (λ (b : Bool). cond b (cond (eqb (length (q .moves)) 1) output-only delayed) input) (T-false (any-sent (q .moves)) (any-unsent (q .moves) h))
 
 pub kind-output-only : (q : State) → IsOutputOnly q → kind q ≡ output-only
 unfolding kind
 kind-output-only q h =
-    let s : any-sent (q .moves) ≡ true = true-of (any-sent (q .moves)) (sent-any (q .moves) (h .0) (subst⁻¹ (λ (l : List Move). In (h .0) l) (h .1) (here refl)) (h .2)) in
+    let s : any-sent (q .moves) ≡ true = T-true (any-sent (q .moves)) (sent-any (q .moves) (h .0) (subst⁻¹ (λ (l : List Move). In (h .0) l) (h .1) (here refl)) (h .2)) in
     ap₂ (λ (a b : Bool). cond a (cond b output-only delayed) input) s (ap (λ (l : List Move). eqb (length l) 1) (h .1))
 
 pub kind-delayed : (s : ℕ) (q : State) → IsDelayed s q → kind q ≡ delayed
@@ -52,7 +52,7 @@ kind-delayed s q h =
     (λ (e : q .moves ≡ h .0 ∷ h .1 ∷ []). subst⁻¹ (λ (l : List Move). In (h .0) l) e (here refl))
     (λ (e : q .moves ≡ h .1 ∷ h .0 ∷ []). subst⁻¹ (λ (l : List Move). In (h .0) l) e (there (here refl)))
     (h .2) in
-    ap₂ (λ (a b : Bool). cond a (cond b output-only delayed) input) (true-of (any-sent (q .moves)) (sent-any (q .moves) (h .0) i (h .3))) two
+    ap₂ (λ (a b : Bool). cond a (cond b output-only delayed) input) (T-true (any-sent (q .moves)) (sent-any (q .moves) (h .0) i (h .3))) two
 
 -- a state has no other kind
 pub kind-only : (k : Kind) (s : ℕ) (q : State) → IsKind k s q → kind q ≡ k
