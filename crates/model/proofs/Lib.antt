@@ -11,9 +11,12 @@ pub mod Value
 pub mod Graph
 pub mod Labelling
 pub mod Right
+pub mod Rounds
+pub mod Labels
 pub mod Maps
 pub mod StateKinds
 pub mod Joint
+pub mod JointMoves
 pub mod Alone
 pub mod Untils
 pub mod Kept
@@ -22,4 +25,5 @@ pub mod Strategy
 pub mod Game
 pub mod Truths
 pub mod Covers
+pub mod NoneWorks
 pub mod Built
