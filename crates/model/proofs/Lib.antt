@@ -17,6 +17,9 @@ pub mod Maps
 pub mod StateKinds
 pub mod Joint
 pub mod JointMoves
+pub mod Tally
+pub mod MatchedTest
+pub mod Judged
 pub mod Alone
 pub mod Untils
 pub mod Kept
@@ -27,3 +30,6 @@ pub mod Truths
 pub mod Covers
 pub mod NoneWorks
 pub mod Built
+pub mod Shows
+pub mod Places
+pub mod Winning
