@@ -33,3 +33,4 @@ pub mod Built
 pub mod Shows
 pub mod Places
 pub mod Winning
+pub mod Stages
