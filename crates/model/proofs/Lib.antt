@@ -34,3 +34,4 @@ pub mod Shows
 pub mod Places
 pub mod Winning
 pub mod Stages
+pub mod Solved

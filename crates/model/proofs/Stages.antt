@@ -7,14 +7,13 @@ use mathlib.Core.List.{List, List·Memᴰ as In}
 use Prim.Native.Nat.{ℕ, zero, suc, _≤_, _<_}
 use native.Mathlib.Omega.{arith}
 use lib.Dec.{T}
-use lib.ListN.{length, getD}
+use lib.ListN.{length}
 use Rattle.model.specs.Events.{Event, shows}
 use Rattle.model.specs.Sides.{Side}
 use Rattle.model.specs.Joined.{Names, JointMove, labelled}
 use Rattle.model.specs.Formulas.{Form}
 use Rattle.model.specs.Judged.{Joint, joint-moves}
 use Rattle.model.proofs.Bools.{or-either, or-left, or-right, T-dec}
-use Rattle.model.proofs.Lists.{getD-in, index-in}
 use Rattle.model.proofs.Finite.{decide, decided, deciding, both?, not?, implies?, some?, each?, upto, in-upto, of-upto}
 use Rattle.model.proofs.Value.{value}
 use Rattle.model.proofs.Rounds.{Within, Growing, steady, first, first-le, first-holds}
@@ -24,7 +23,7 @@ use Rattle.model.proofs.Untils.{turn, Untils, turn-lt}
 use Rattle.model.proofs.Masks.{Masks}
 use Rattle.model.proofs.Game.{Set, Can, Meets, Discharged, Choice, Closed, discharged?}
 use Rattle.model.proofs.Shows.{show, same-show?}
-use Rattle.model.proofs.Places.{Position, places, in-places, Listed, of-places}
+use Rattle.model.proofs.Places.{Position, places, place, listed, numbered, every-place}
 use Rattle.model.proofs.Winning.{Answered, Step, Winning}
 
 module _ (Ss : List Side) (fs : List Form) (M : Masks fs) (U : Untils fs) where
@@ -90,24 +89,10 @@ module _ (Ss : List Side) (fs : List Form) (M : Masks fs) (U : Untils fs) where
 
     -- ---- as many stages as positions are enough
     module _ (outside : Position (M .Mask)) where
-      abbrev pub all-places : List (Position (M .Mask))
+      abbrev all-places : List (Position (M .Mask))
       all-places = places Ss ms (U .count)
 
-      -- a set of positions by their numbers
-      abbrev pub numbered : Set Ss fs M U → ℕ → Bool
-      numbered Z c = Z (getD all-places c outside .joint) (getD all-places c outside .owed) (getD all-places c outside .turn)
-
-      -- what holds of every number holds of every position in range
-      pub every-place : (P : List ℕ → M .Mask → ℕ → Type 0) → ((c : ℕ) → c < length all-places → P (getD all-places c outside .joint) (getD all-places c outside .owed) (getD all-places c outside .turn))
-          → (s : List ℕ) (m : M .Mask) (i : ℕ) → Names Ss s → M .ok m → i < U .count → P s m i
-      every-place P f s m i hs hm hi =
-          let w = index-in outside (in-places Ss ms (U .count) s m i hs (complete m hm) hi) in
-          subst (λ (p : Position (M .Mask)). P (p .joint) (p .owed) (p .turn)) (w .2) (f (w .0) (w .1))
-
-      pub listed : (c : ℕ) → c < length all-places → Listed Ss ms (U .count) (getD all-places c outside)
-      listed c h = of-places Ss ms (U .count) (getD all-places c outside) (getD-in all-places c outside h)
-
-      growing : Growing (length all-places) (λ k. numbered (stage k))
+      growing : Growing (length all-places) (λ k. numbered Ss ms (U .count) outside (stage k))
       growing =
           record {
             begins = λ c h t. stage-discharge 1 (p c .joint) (p c .owed) (p c .turn) (stage-first (p c .joint) (p c .owed) (p c .turn) t);
@@ -115,24 +100,24 @@ module _ (Ss : List Side) (fs : List Form) (M : Masks fs) (U : Untils fs) where
                 ⊎-elim
                 (λ (w : (n : M .Mask) × In n ms × Discharging X (p c .joint) (p c .owed) (p c .turn) n). stage-discharge (suc k) (p c .joint) (p c .owed) (p c .turn) w)
                 (λ (w : (n : M .Mask) × In n ms × Waiting (stage j) (p c .joint) (p c .owed) (p c .turn) n).
-                let l = listed c h in
+                let l = listed Ss ms (U .count) outside c h in
                 stage-wait k (p c .joint) (p c .owed) (p c .turn)
                 (w .0, w .1, (w .2 .0, (w .2 .1 .0, λ es ts a.
                 let r = w .2 .1 .1 es ts a in
                 let there : Names Ss (r .1) = targets-there Ss reg (p c .joint) (l .joint-there) (r .0) (r .1) (r .2) in
-                (r .0, r .1, r .2, r .3, every-place (λ s m i. T (stage j s m i) → T (stage k s m i)) in-k (r .1) (w .0) (p c .turn) there (sound (w .0) (w .1)) (l .turn-there) (r .4))))))
+                (r .0, r .1, r .2, r .3, every-place Ss ms (U .count) outside (λ s m i. T (stage j s m i) → T (stage k s m i)) in-k (r .1) (w .0) (p c .turn) there (w .1) (l .turn-there) (r .4))))))
                 (stage-open j (p c .joint) (p c .owed) (p c .turn) t);
           }
         where
           p : ℕ → Position (M .Mask)
-          p c = getD all-places c outside
+          p c = place Ss ms (U .count) outside c
 
       -- the positions that are won if those of X are
       abbrev pub last : Set Ss fs M U
       last = stage (length all-places)
 
       in-last : (k : ℕ) (s : List ℕ) (m : M .Mask) (i : ℕ) → Names Ss s → M .ok m → i < U .count → T (stage k s m i) → T (last s m i)
-      in-last k = every-place (λ s m i. T (stage k s m i) → T (last s m i)) (steady (length all-places) (λ j. numbered (stage j)) growing k)
+      in-last k s m i hs hm hi = every-place Ss ms (U .count) outside (λ s m i. T (stage k s m i) → T (last s m i)) (steady (length all-places) (λ j. numbered Ss ms (U .count) outside (stage j)) growing k) s m i hs (complete m hm) hi
 
       pub closed : Closed Ss fs M U X last
       closed =
