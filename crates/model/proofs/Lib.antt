@@ -14,6 +14,7 @@ pub mod Right
 pub mod Rounds
 pub mod Labels
 pub mod Maps
+pub mod SameEvent
 pub mod StateKinds
 pub mod Joint
 pub mod JointMoves
@@ -35,3 +36,8 @@ pub mod Places
 pub mod Winning
 pub mod Stages
 pub mod Solved
+pub mod Fits
+pub mod Plain
+pub mod Runs
+pub mod OneEach
+pub mod TwoSides
