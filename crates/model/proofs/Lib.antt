@@ -35,6 +35,7 @@ pub mod Judged
 pub mod Untils
 pub mod Kept
 pub mod Masks
+pub mod Held
 pub mod Strategy
 pub mod Game
 pub mod Truths
