@@ -45,6 +45,7 @@ pub mod Built
 pub mod Shows
 pub mod Places
 pub mod Winning
+pub mod Parts
 pub mod Stamps
 pub mod Stages
 pub mod Solved
