@@ -47,6 +47,7 @@ pub mod Places
 pub mod Winning
 pub mod Parts
 pub mod Stamps
+pub mod Sweeps
 pub mod Stages
 pub mod Solved
 -- runs
