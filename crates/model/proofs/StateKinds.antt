@@ -1,5 +1,5 @@
--- The kind of a state, and what the theorems use of a side. `regular` is the one place where refusal 6 is used: of a delayed state no theorem needs
--- that its tick returns to itself.
+-- The kind of a state, and what the theorems use of a side. `regular` is the one place that uses refusal 6, that each state of a side has a kind; and of
+-- a delayed state no theorem uses that its tick returns to itself.
 use mathlib.Core.Path.{_≡_, refl, sym, ap, ap₂, subst, subst⁻¹, _∙_}
 use mathlib.Core.Bool.{Bool, true, false, not, _||_, cond}
 use mathlib.Core.Logic.{_⊎_, inl, inr, ⊎-elim}
