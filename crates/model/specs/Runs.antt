@@ -1,5 +1,5 @@
--- 01, "The tick": one tick of a converter, the plain sides beside it, and what demand 3 says of every run. Shown and delivered events are lists with one
--- event a side.
+-- 01, "The tick": one tick of a converter, the plain sides beside it, and what demand 3 says of every run. Shown and delivered events
+-- are lists with one event a side.
 use mathlib.Core.Path.{_≡_}
 use mathlib.Core.Bool.{Bool, true, false, not, _&&_, cond}
 use mathlib.Core.Logic.{_⊎_, _↔_}
@@ -24,8 +24,8 @@ pub data Answer : Type 0 where
   done : Answer
   refused : ℕ → Answer
 
--- A shown event fits the side event that it equals, and 0 fits any event not sent. A shown event above 0 fits none; nor does one below -63 (01's 17),
--- as no event in range equals it.
+-- A shown event fits the side event that it equals, and 0 fits any event not sent. A shown event above 0 fits none. 01's 17 for a
+-- shown event below -63 is included: no event in range equals it, so none fits.
 unfoldable pub fits : Event → Event → Bool
 fits (pos zero) e = not (sent e)
 fits (pos (suc n)) e = false
@@ -68,7 +68,9 @@ pub record Called : Type 0 where
   pub running : Running
 
 unfoldable pub called : Running → Call → Called
-called R (tick-call xs) = let t = ticked (R .converter) (R .runner) xs in record { answer = t .answer; running = record { converter = R .converter; runner = t .runner } }
+called R (tick-call xs) =
+    let t = ticked (R .converter) (R .runner) xs in
+    record { answer = t .answer; running = record { converter = R .converter; runner = t .runner } }
 
 -- ---- the plain sides: one state number a side
 -- the target that a state has for an event; where it has none (which demand 3 shuts out) the side stays
@@ -104,7 +106,8 @@ AllAllow [] [] (x ∷ xs) = ⊥
 AllAllow (S ∷ Ss) [] xs = ⊥
 AllAllow (S ∷ Ss) (s ∷ ss) [] = ⊥
 
--- A delivered event stands in the state in which its side was; it is the shown event where that isn't 0, and no sent event where 0 was shown.
+-- A delivered event stands in the state in which its side was; it is the shown event where that isn't 0, and no sent event where 0
+-- was shown.
 pub record DeliveredTo (q : State) (x e : Event) : Type 0 where
   pub stands : (t : ℕ) × In (record { event = e; target = t }) (q .moves)
   pub as-shown : (x ≡ tick → ⊥) → e ≡ x
