@@ -19,6 +19,7 @@ pub mod Labelling
 pub mod Right
 pub mod Rounds
 pub mod Labels
+pub mod Bounded
 pub mod Maps
 -- sides and matched converters
 pub mod SameEvent
