@@ -21,7 +21,7 @@ use Rattle.model.proofs.Finite.{upto, in-upto, of-upto, tabulate-length
 use Rattle.model.proofs.Rounds.{within-or}
 use Rattle.model.proofs.Joint.{AllRegular, all-regular}
 use Rattle.model.proofs.Untils.{Untils, untils}
-use Rattle.model.proofs.Masks.{Masks, free-masks, InRange, mask-of-lt, rules-mask, rule-in-mask, in-mask-rule}
+use Rattle.model.proofs.Masks.{Masks, free-masks, MaskInRange, mask-of-lt, rules-mask, rule-in-mask, in-mask-rule}
 use Rattle.model.proofs.Game.{Set}
 use Rattle.model.proofs.Covers.{Covers, covers-all, covers-next, covers-both}
 use Rattle.model.proofs.NoneWorks.{none-works}
@@ -84,17 +84,17 @@ module _ (D : Design) (wf : WellFormed D) where
   abbrev goal : ℕ
   goal = rules-mask D
 
-  goal-ok : InRange D (λ f. false) (rules-mask D)
+  goal-ok : MaskInRange D (λ f. false) (rules-mask D)
   unfolding rules-mask
   goal-ok = (mask-of-lt D _, λ f t. absurd t)
 
   abbrev ms : List ℕ
   ms = rotated (2 ^ kept-count D) goal
 
-  sound : (m : ℕ) → In m ms → InRange D (λ f. false) m
+  sound : (m : ℕ) → In m ms → MaskInRange D (λ f. false) m
   sound m i = (of-rotated (2 ^ kept-count D) goal m i, λ f t. absurd t)
 
-  complete : (m : ℕ) → InRange D (λ f. false) m → In m ms
+  complete : (m : ℕ) → MaskInRange D (λ f. false) m → In m ms
   complete m h = in-rotated (2 ^ kept-count D) goal m (h .0)
 
   abbrev outside : Position ℕ
