@@ -29,6 +29,7 @@ pub mod JointMoves
 pub mod OneEach
 pub mod TwoSides
 pub mod Alone
+pub mod AloneLabels
 pub mod Tally
 pub mod MatchedTest
 pub mod Judged
