@@ -1,7 +1,7 @@
 -- One tick of the sides: their tables allow exactly what some joint move shows, and by its events the plain sides move where it leads.
 use mathlib.Core.Path.{_≡_, refl, sym, ap, ap₂, subst, _∙_}
 use mathlib.Core.Bool.{cond}
-use mathlib.Core.Logic.{inl, inr, ⊎-elim}
+use mathlib.Core.Logic.{⊎-elim}
 use mathlib.Core.List.{List, [], _∷_, List·Memᴰ as In, List·Memᴰ·head as here, List·Memᴰ·tail as there, List·Memᴰ·cases-cons as in-cases}
 use Prim.Native.Nat.{ℕ}
 use native.Mathlib.Omega.{arith}

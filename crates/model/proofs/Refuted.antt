@@ -16,7 +16,7 @@ use Rattle.model.specs.Converters.{Converter, node, side-events, Matched
 use Rattle.model.specs.Formulas.{Form, truth, falsity, prop, nprop, conj, disj, ax, au, ag, LowerForm}
 use Rattle.model.specs.Designs.{Design, WellFormed, NoneWorks}
 use Rattle.model.specs.Positions.{any}
-use Rattle.model.specs.Judged.{all, same-events, same-states, Joint, joint-moves, Kripke, kripke, labels}
+use Rattle.model.specs.Judged.{all, same-events, same-states, Joint, joint-moves, Kripke, kripke}
 use Rattle.model.proofs.Bools.{and-both, T-true}
 use Rattle.model.proofs.Lists.{all-in, any-in, not-all, in-map}
 use Rattle.model.proofs.Labelling.{UntilAt}

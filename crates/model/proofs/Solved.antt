@@ -1,17 +1,17 @@
 -- The method decides: every design of well-formed sides and formulas has a converter that works, with at most as many states as there are positions, or
 -- none works. A set of positions starts full and loses, turn by turn, what the last stage lacks. It covers every matched converter all the time; when it
 -- lacks the start, none works, and when nothing is lost, its positions win.
-use mathlib.Core.Path.{_≡_, refl, sym, ap, ap₂, subst, subst⁻¹, _∙_}
+use mathlib.Core.Path.{_≡_, sym, ap, subst, subst⁻¹, _∙_}
 use mathlib.Core.Bool.{Bool, true, false, _&&_}
-use mathlib.Core.Logic.{_⊎_, inl, inr, ⊎-elim}
-use mathlib.Core.List.{List, [], _∷_, _++_, List·Memᴰ as In, Memᴰ·append-left, Memᴰ·append-right, List·Memᴰ·append-cases}
-use Prim.Native.Nat.{ℕ, zero, suc, _+_, _*_, _^_, _≤_, _<_, max}
+use mathlib.Core.Logic.{⊎-elim}
+use mathlib.Core.List.{List, _∷_, _++_, List·Memᴰ as In, Memᴰ·append-left, Memᴰ·append-right, List·Memᴰ·append-cases}
+use Prim.Native.Nat.{ℕ, zero, suc, _+_, _*_, _^_, _≤_, _<_}
 use native.Mathlib.Omega.{arith}
 use native.Mathlib.Nat.{not-suc-le-zero, mul-assoc}
 use lib.Dec.{T}
-use lib.ListN.{length, getD, take, drop, length-append, take-append-drop}
+use lib.ListN.{length, take, drop, length-append, take-append-drop}
 use lib.Seq.{drop-cons}
-use Rattle.model.specs.Joined.{Names, zeros}
+use Rattle.model.specs.Joined.{zeros}
 use Rattle.model.specs.Converters.{Converter}
 use Rattle.model.specs.Designs.{Design, WellFormed, Works, NoneWorks}
 use Rattle.model.specs.Positions.{count, joint-count, kept-count, positions}

@@ -2,7 +2,7 @@
 -- none to work.
 use mathlib.Core.Path.{_≡_}
 use mathlib.Core.List.{List, List·Memᴰ as In}
-use Prim.Native.Nat.{ℕ, _≤_, _<_}
+use Prim.Native.Nat.{ℕ, _<_}
 use lib.ListN.{length}
 use Rattle.model.specs.Actl.{System, Holds}
 use Rattle.model.specs.Sides.{Side, WellFormedSide}

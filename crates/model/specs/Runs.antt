@@ -11,7 +11,7 @@ use lib.ListN.{length}
 use lib.IntN.{pos, negsuc}
 use Rattle.model.specs.Events.{Event, tick, sent, same-event}
 use Rattle.model.specs.Sides.{Move, State, Side, state}
-use Rattle.model.specs.Converters.{Edge, Node, Converter, node, side-events}
+use Rattle.model.specs.Converters.{Edge, Converter, node, side-events}
 
 -- ---- one tick
 -- A runner: the number of its converter state (01 says record) and the events last delivered.
