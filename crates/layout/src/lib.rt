@@ -1,0 +1,3 @@
+// Bytes: designs, converters and blocks, with every refusal in its order. Offsets stand here and nowhere above.
+pub mod records;
+pub mod states;
