@@ -46,4 +46,4 @@ word-bytes v = v % 256 ∷ v / 256 ∷ []
 
 -- the bytes vs in the place of those that stood from a place on
 unfoldable pub put : List ℕ → ℕ → List ℕ → List ℕ
-put bs at vs = take at bs ++ (vs ++ drop (at + length vs) bs)
+put bs at vs = take at bs ++ vs ++ drop (at + length vs) bs

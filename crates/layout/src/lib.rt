@@ -1,3 +1,5 @@
 // Bytes: designs, converters and blocks, with every refusal in its order. Offsets stand here and nowhere above.
+pub mod events;
 pub mod records;
 pub mod states;
+pub mod words;

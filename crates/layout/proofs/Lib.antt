@@ -1,0 +1,3 @@
+-- Lemmas that several functions' proofs cite.
+pub mod SignedBytes
+pub mod Put
