@@ -4,9 +4,10 @@ use mathlib.Core.List.{List, [], _∷_, _++_, append-assoc}
 use Prim.Native.Nat.{ℕ, _+_, _≤_, _<_}
 use native.Mathlib.Nat.{add-assoc}
 use native.Mathlib.Omega.{arith}
-use lib.ListN.{length, take, drop, set, length-append}
+use lib.ListN.{length, take, drop, set, replicate, length-append, length-replicate, replicate-append-replicate}
 use lib.Seq.{sets, sets-eq, length-sets, take-at, drop-at, drop-drop, length-take-le}
-use Rattle.layout.specs.Bytes.{put}
+use Rattle.layout.specs.Bytes.{byte, part, put}
+use Rattle.layout.proofs.Parts.{length-part, part-more}
 
 -- a run of stores
 pub put-sets : (vs bs : List ℕ) (at : ℕ) → at + length vs ≤ length bs → sets bs at vs ≡ put bs at vs
@@ -51,3 +52,17 @@ put-put vs ws bs at h =
 pub put-more : (vs bs : List ℕ) (at v : ℕ) → at + length vs < length bs → set (put bs at vs) (at + length vs) v ≡ put bs at (vs ++ (v ∷ []))
 put-more vs bs at v h =
     put-sets (v ∷ []) (put bs at vs) (at + length vs) (omega (arith, length-put vs bs at (omega arith))) ∙ put-put vs (v ∷ []) bs at (omega arith)
+
+-- a turn of a loop that stores a byte behind those that it has put
+pub put-next : (vs bs : List ℕ) (at i v : ℕ) → length vs ≡ i → at + i < length bs → set (put bs at vs) (at + i) v ≡ put bs at (vs ++ (v ∷ []))
+put-next vs bs at i v e h = ap (λ n. set (put bs at vs) (at + n) v) (sym e) ∙ put-more vs bs at v (omega arith)
+
+pub fill-next : (bs : List ℕ) (at i v : ℕ) → at + i < length bs → set (put bs at (replicate i v)) (at + i) v ≡ put bs at (replicate (i + 1) v)
+fill-next bs at i v h =
+    put-next (replicate i v) bs at i v (length-replicate i v) h ∙ ap (λ l. put bs at l) (replicate-append-replicate i 1 v)
+
+pub copy-next : (src dst : List ℕ) (from at i : ℕ) → from + i < length src → at + i < length dst
+    → set (put dst at (part src from i)) (at + i) (byte src (from + i)) ≡ put dst at (part src from (i + 1))
+copy-next src dst from at i hs hd =
+    put-next (part src from i) dst at i (byte src (from + i)) (length-part src from i (omega arith)) hd
+    ∙ ap (λ l. put dst at l) (sym (part-more src from i hs))

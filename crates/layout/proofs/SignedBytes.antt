@@ -7,10 +7,15 @@ use native.Mathlib.Decide.{ℕ-discrete}
 use borrow.Author.Tests.{ltb-true, ltb-false, le-ltb, eq-eqb, ne-eqb, le-leb, lt-leb}
 use lib.Dec.{eqb, leb, leb·zero}
 use lib.IntN.{ℤ, pos, negsuc, negℤ, natAbs, _-ℤ_, +ℤ-idl}
-use lib.Signed.{ltZ, leZ}
+use lib.Signed.{mag, ltZ, leZ}
 use mir.Syntax.{w8}
-use mir.Val.{SFits, ofZ}
+use mir.Val.{SFits, ofZ, toZ}
+use mir.ValLaws.{toZ-ofZ}
 use Rattle.model.specs.Events.{same-event}
+
+-- the machine reads a number back from its bits
+pub read-back : (e : ℤ) → mag e < 128 → toZ w8 (ofZ w8 e) ≡ e
+read-back e h = toZ-ofZ w8 e (record { sfits = h })
 
 -- 0 - e is the negation
 pub from-zero : (e : ℤ) → pos 0 -ℤ e ≡ negℤ e
@@ -43,9 +48,9 @@ negative (negsuc n) t = (n, refl)
 eqb-both : (a b x y : ℕ) → (a ≡ b → x ≡ y) → (x ≡ y → a ≡ b) → eqb a b ≡ eqb x y
 eqb-both a b x y f g = by (ℕ-discrete a b)
   where
-  by : Dec (a ≡ b) → eqb a b ≡ eqb x y
-  by (yes p) = eq-eqb a b p ∙ sym (eq-eqb x y (f p))
-  by (no n) = ne-eqb a b n ∙ sym (ne-eqb x y (λ q. n (g q)))
+    by : Dec (a ≡ b) → eqb a b ≡ eqb x y
+    by (yes p) = eq-eqb a b p ∙ sym (eq-eqb x y (f p))
+    by (no n) = ne-eqb a b n ∙ sym (ne-eqb x y (λ q. n (g q)))
 
 -- equal bits are equal numbers
 pub same-bits : (a b : ℤ) → SFits w8 a → SFits w8 b → eqb (ofZ w8 a) (ofZ w8 b) ≡ same-event a b

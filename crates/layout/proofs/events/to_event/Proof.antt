@@ -7,9 +7,9 @@ use borrow.Author.Tests.{lt-ltb, le-ltb}
 use lib.IntN.{negsuc, _-ℤ_}
 use mir.Syntax.{w8}
 use mir.Val.{SFits, toZ}
-use mir.ValLaws.{toZ-ofZ, toZ-pos}
+use mir.ValLaws.{toZ-pos}
 use Rattle.layout.specs.Bytes.{event-of}
-use Rattle.layout.proofs.SignedBytes.{below-zero}
+use Rattle.layout.proofs.SignedBytes.{read-back, below-zero}
 use Rattle.layout.proofs.events.to_event.Statement.{statement}
 use Rattle.layout.proofs.events.to_event.Tie as tie
 
@@ -38,7 +38,7 @@ returns c = rw (lt-ltb (c .before .args .b) 128 (c .if1 .taken))
 
 returns-2 : tie.Need-returns-2
 unfolding event-of
-returns-2 c = rw (difference c, le-ltb (c .before .args .b) 128 (c .if1 .left)) (toZ-ofZ w8 (negsuc (255 - c .before .args .b)) (fits c))
+returns-2 c = rw (difference c, le-ltb (c .before .args .b) 128 (c .if1 .left)) (read-back (negsuc (255 - c .before .args .b)) (fits c .sfits))
 
 pub to-event-spec : {M : Type 1} → statement M
 to-event-spec = tie.close (tie.spec cast-result sub-result cast-result-2 sub-result-2 returns returns-2)
