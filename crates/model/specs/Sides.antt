@@ -57,7 +57,7 @@ unfoldable pub any-sent : List Move → Bool
 any-sent [] = false
 any-sent (m ∷ ms) = sent (m .event) || any-sent ms
 
--- The kind of a state that has one. (`proofs/Kinds` shows that this is the only k with `IsKind k`.)
+-- The kind of a state that has one. (`proofs/StateKinds` shows that this is the only k with `IsKind k`.)
 unfoldable pub kind : State → Kind
 kind q = cond (any-sent (q .moves)) (cond (eqb (length (q .moves)) 1) output-only delayed) input
 
