@@ -2,6 +2,8 @@
 pub mod ConverterBytes
 pub mod Nodes
 pub mod Parts
+pub mod Pieces
 pub mod Put
+pub mod RecordBytes
 pub mod SignedBytes
 pub mod Tables
