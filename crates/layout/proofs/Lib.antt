@@ -1,5 +1,8 @@
 -- Lemmas that several functions' proofs cite.
+pub mod Accepted
 pub mod ConverterBytes
+pub mod FirstFailing
+pub mod Made
 pub mod Nodes
 pub mod Parts
 pub mod Pieces
