@@ -1,0 +1,12 @@
+-- Lemmas that several functions' proofs cite.
+pub mod Accepted
+pub mod ConverterBytes
+pub mod FirstFailing
+pub mod Made
+pub mod Nodes
+pub mod Parts
+pub mod Pieces
+pub mod Put
+pub mod RecordBytes
+pub mod SignedBytes
+pub mod Tables
