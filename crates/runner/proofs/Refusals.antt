@@ -1,0 +1,41 @@
+-- A tick by its refusal: what has passed where there is none, and what the tick is then and otherwise.
+use mathlib.Core.Path.{_≡_, refl, ap}
+use mathlib.Core.Bool.{true, cond}
+use mathlib.Core.List.{List}
+use Prim.Native.Nat.{ℕ, _*_, _<_}
+use borrow.Author.Tests.{ltb-true, eq-eqb, eqb-false, ne-eqb}
+use Rattle.model.specs.Events.{Event}
+use Rattle.model.specs.Converters.{node}
+use Rattle.model.specs.Judged.{all}
+use Rattle.model.specs.Runs.{first-fit}
+use Rattle.layout.specs.Sizes.{record-bytes}
+use Rattle.layout.specs.Converters.{records, converter}
+use Rattle.layout.specs.Refusals.{size-right, record-right}
+use Rattle.layout.proofs.FirstFailing.{passed}
+use Rattle.runner.specs.declared.Runner.{Runner}
+use Rattle.runner.specs.Ticks.{can-show, tick-refusal, refused, taken, ticked}
+
+-- what the tests of a tick at record c ask
+pub record Passes (cs : List ℕ) (c : ℕ) (xs : List Event) : Type 0 where
+  pub sized : size-right cs ≡ true
+  pub there : c < records cs
+  pub right : record-right cs (records cs) (record-bytes * c) ≡ true
+  pub shown : all can-show xs ≡ true
+
+pub passes : (cs : List ℕ) (c : ℕ) (xs : List Event) → tick-refusal cs c xs ≡ 0 → Passes cs c xs
+unfolding tick-refusal
+passes cs c xs e =
+    let p = passed _ _ (eqb-false 10 0 refl) e in
+    let q = passed _ _ (eqb-false 17 0 refl) (p .1) in
+    let r = passed _ _ (eqb-false 11 0 refl) (q .1) in
+    let s = passed _ _ (eqb-false 17 0 refl) (r .1) in
+    record { sized = p .0; there = ltb-true c (records cs) (q .0); right = r .0; shown = s .0 }
+
+module _ (cs : List ℕ) (r : Runner) (xs : List Event) where
+  pub goes-on : tick-refusal cs (r .«record») xs ≡ 0 → ticked cs r xs ≡ taken r (first-fit xs (node (converter cs) (r .«record») .edges))
+  unfolding ticked
+  goes-on e = rw (eq-eqb (tick-refusal cs (r .«record») xs) 0 e)
+
+  pub stays : (tick-refusal cs (r .«record») xs ≡ 0 → ⊥) → ticked cs r xs ≡ refused r (tick-refusal cs (r .«record») xs)
+  unfolding ticked
+  stays n = rw (ne-eqb (tick-refusal cs (r .«record») xs) 0 n)
