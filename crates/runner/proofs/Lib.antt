@@ -1,4 +1,7 @@
--- Lemmas that several proofs cite.
+-- The theorem to read first is `Runs`: of every run over the bytes what 01 says under "The tick" is true. The rest is what it and the proofs of functions
+-- cite.
 pub mod Shown
 pub mod FirstFit
 pub mod Refusals
+pub mod InModel
+pub mod Runs

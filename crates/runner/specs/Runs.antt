@@ -8,6 +8,7 @@ use Rattle.layout.specs.Converters.{converter}
 use Rattle.runner.specs.declared.Runner.{Runner}
 use Rattle.runner.specs.declared.Answer.{Answer}
 use Rattle.runner.specs.declared.Answer.the-variants.{Done, Refused}
+use Rattle.runner.specs.declared.Ticked.{Ticked}
 use Rattle.runner.specs.Ticks.{delivered, ticked}
 
 -- ---- calls, one after the other. The converter that they lend is part of the run's state.
@@ -39,16 +40,21 @@ answer-of (Refused k) = model.refused k
 abbrev pub runner-of : Runner → model.Runner
 runner-of r = record { at = r .«record»; delivered = delivered r }
 
+abbrev pub ticked-of : Ticked → model.Ticked
+ticked-of t = record { answer = answer-of (t .answer); runner = runner-of (t .runner) }
+
 abbrev pub running-of : Running → model.Running
 running-of R = record { converter = converter (R .converter); runner = runner-of (R .runner) }
+
+abbrev pub called-of : Called → model.Called
+called-of k = record { answer = answer-of (k .answer); running = running-of (k .running) }
 
 -- ---- what is claimed
 -- Of every run over the bytes: one claim about the list of calls. `ss` are the plain sides' states before the first call.
 abbrev pub RunRight : List Side → Running → List ℕ → List Call → Type 0
 RunRight Ss R ss [] = model.InStep (running-of R) ss
 RunRight Ss R ss (c ∷ cs) =
-    let A = answer-of (called R c .answer) in
-    let R′ = called R c .running in
+    let k = called-of (called R c) in
     model.InStep (running-of R) ss
-    × model.CallRight Ss ss (running-of R) (call-of c) A (running-of R′)
-    × RunRight Ss R′ (model.plain Ss ss (call-of c) A (delivered (R′ .runner))) cs
+    × model.CallRight Ss ss (running-of R) (call-of c) (k .answer) (k .running)
+    × RunRight Ss (called R c .running) (model.plain Ss ss (call-of c) (k .answer) (k .running .runner .delivered)) cs

@@ -1,0 +1,1 @@
+-- Theorem 3 at the bytes.
