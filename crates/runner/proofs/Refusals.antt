@@ -1,11 +1,14 @@
 -- A tick by its refusal: what has passed where there is none, and what the tick is then and otherwise.
 use mathlib.Core.Path.{_≡_, refl, ap}
-use mathlib.Core.Bool.{true, cond}
+use mathlib.Core.Bool.{Bool, true, false, cond}
 use mathlib.Core.List.{List}
+use mathlib.Core.Option.{Option, none, some}
 use Prim.Native.Nat.{ℕ, _*_, _<_}
+use native.Mathlib.Omega.{arith}
 use borrow.Author.Tests.{ltb-true, eq-eqb, eqb-false, ne-eqb}
+use lib.Dec.{eqb}
 use Rattle.model.specs.Events.{Event}
-use Rattle.model.specs.Converters.{node}
+use Rattle.model.specs.Converters.{Edge, node}
 use Rattle.model.specs.Judged.{all}
 use Rattle.model.specs.Runs.{first-fit}
 use Rattle.layout.specs.Sizes.{record-bytes}
@@ -13,6 +16,7 @@ use Rattle.layout.specs.Converters.{records, converter}
 use Rattle.layout.specs.Refusals.{size-right, record-right}
 use Rattle.layout.proofs.FirstFailing.{passed}
 use Rattle.runner.specs.declared.Runner.{Runner}
+use Rattle.runner.specs.declared.Answer.the-variants.{Refused}
 use Rattle.runner.specs.Ticks.{can-show, tick-refusal, refused, taken, ticked}
 
 -- what the tests of a tick at record c ask
@@ -39,3 +43,18 @@ module _ (cs : List ℕ) (r : Runner) (xs : List Event) where
   pub stays : (tick-refusal cs (r .«record») xs ≡ 0 → ⊥) → ticked cs r xs ≡ refused r (tick-refusal cs (r .«record») xs)
   unfolding ticked
   stays n = rw (ne-eqb (tick-refusal cs (r .«record») xs) 0 n)
+
+-- ---- a refusal changes nothing
+module _ (r : Runner) where
+  taken-unchanged : (o : Option Edge) (k : ℕ) → taken r o .answer ≡ Refused k → taken r o .runner ≡ r
+  unfolding taken
+  taken-unchanged none k e = refl
+  taken-unchanged (some x) k e = let z : _≡_ {A = ℕ} 0 1 = cc in absurd (omega arith)
+
+  by-test : (b : Bool) (n k : ℕ) (o : Option Edge) → cond b (taken r o) (refused r n) .answer ≡ Refused k → cond b (taken r o) (refused r n) .runner ≡ r
+  by-test true n k o e = taken-unchanged o k e
+  by-test false n k o e = refl
+
+  pub refused-unchanged : (cs : List ℕ) (xs : List Event) (k : ℕ) → ticked cs r xs .answer ≡ Refused k → ticked cs r xs .runner ≡ r
+  unfolding ticked
+  refused-unchanged cs xs k e = by-test (eqb (tick-refusal cs (r .«record») xs) 0) (tick-refusal cs (r .«record») xs) k (first-fit xs (node (converter cs) (r .«record») .edges)) e
