@@ -145,26 +145,26 @@ fn take_first(s: &[u8], c: usize, runner: Runner, shown: [i8; 2]) -> Ticked
 }
 
 // A tick with the runner by value.
-pub fn step(s: &[u8], runner: Runner, first: i8, second: i8) -> Ticked
-    ensures { λ t. ⌜ t ≡ ticked (now (s .entry)) runner (first ∷ second ∷ []) ⌝ }
+pub fn step(converter: &[u8], runner: Runner, first: i8, second: i8) -> Ticked
+    ensures { λ t. ⌜ t ≡ ticked (now (converter .entry)) runner (first ∷ second ∷ []) ⌝ }
 {
     let c = runner.record as usize;
     let shown = [first, second];
-    let refusal = tick_refusal(s, c, shown);
+    let refusal = tick_refusal(converter, c, shown);
     if refusal != 0 {
         return Ticked {
             answer: Answer::Refused(refusal),
             runner: runner,
         };
     }
-    take_first(s, c, runner, shown)
+    take_first(converter, c, runner, shown)
 }
 
 // A tick with the runner lent.
-pub fn tick(s: &[u8], runner: &mut Runner, first: i8, second: i8) -> Answer
-    ensures { λ a. ⌜ record { answer = a; runner = now (runner .exit) } ≡ ticked (now (s .entry)) (now (runner .entry)) (first ∷ second ∷ []) ⌝ }
+pub fn tick(converter: &[u8], runner: &mut Runner, first: i8, second: i8) -> Answer
+    ensures { λ a. ⌜ record { answer = a; runner = now (runner .exit) } ≡ ticked (now (converter .entry)) (now (runner .entry)) (first ∷ second ∷ []) ⌝ }
 {
-    let t = step(s, *runner, first, second);
+    let t = step(converter, *runner, first, second);
     *runner = t.runner;
     t.answer
 }

@@ -26,10 +26,10 @@ read : (s : tie.Start) → again (s .args .first) ∷ again (s .args .second) �
 read s = ap₂ {C = List Event} (λ x y. x ∷ y ∷ []) (read-back (s .args .first) (s .fits .first .sfits)) (read-back (s .args .second) (s .fits .second .sfits))
 
 -- the tests' answer
-tested : (c : tie.After-tick-refusal) → c .tick-refusal .result ≡ tick-refusal (c .before .before .before .args .s .now) (c .before .before .before .args .runner .«record») (shown (c .before .before .before))
+tested : (c : tie.After-tick-refusal) → c .tick-refusal .result ≡ tick-refusal (c .before .before .before .args .converter .now) (c .before .before .before .args .runner .«record») (shown (c .before .before .before))
 tested c =
     let s = c .before .before .before in
-    c .tick-refusal .ensures ∙ ap (tick-refusal (s .args .s .now) (s .args .runner .«record»)) (read s)
+    c .tick-refusal .ensures ∙ ap (tick-refusal (s .args .converter .now) (s .args .runner .«record»)) (read s)
 
 cast-c : tie.Need-cast-c
 cast-c c = search needs
@@ -41,20 +41,20 @@ returns : tie.Need-returns
 returns c =
     let s = c .before .before .before .before in
     let e = tested (c .before) in
-    ap (refused (s .args .runner)) e ∙ sym (stays (s .args .s .now) (s .args .runner) (shown s) (λ z. c .if1 .taken (e ∙ z)))
+    ap (refused (s .args .runner)) e ∙ sym (stays (s .args .converter .now) (s .args .runner) (shown s) (λ z. c .if1 .taken (e ∙ z)))
 
 take-first-requires : tie.Need-take-first-requires
 take-first-requires c κs =
     let s = c .before .before .before .before in
-    let p = passes (s .args .s .now) (s .args .runner .«record») (shown s) (sym (tested (c .before)) ∙ c .if1 .left) in
+    let p = passes (s .args .converter .now) (s .args .runner .«record») (shown s) (sym (tested (c .before)) ∙ c .if1 .left) in
     (p .there, p .right)
 
 returns-2 : tie.Need-returns-2
 returns-2 c =
     let s = c .before .before .before .before .before in
     c .take-first .ensures
-    ∙ ap (λ xs. taken (s .args .runner) (first-fit xs (node (converter (s .args .s .now)) (s .args .runner .«record») .edges))) (read s)
-    ∙ sym (goes-on (s .args .s .now) (s .args .runner) (shown s) (sym (tested (c .before .before)) ∙ c .before .if1 .left))
+    ∙ ap (λ xs. taken (s .args .runner) (first-fit xs (node (converter (s .args .converter .now)) (s .args .runner .«record») .edges))) (read s)
+    ∙ sym (goes-on (s .args .converter .now) (s .args .runner) (shown s) (sym (tested (c .before .before)) ∙ c .before .if1 .left))
 
 pub step-spec : {M : Type 1} → statement M
 step-spec = tie.close (tie.spec cast-c tick-refusal-requires returns take-first-requires returns-2)
