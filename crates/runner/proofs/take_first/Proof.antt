@@ -18,6 +18,7 @@ use Rattle.layout.proofs.Accepted.{right-well-formed}
 use Rattle.layout.proofs.Nodes.{WellFormedNode}
 use Rattle.layout.proofs.SignedBytes.{read-back}
 use Rattle.layout.proofs.Tables.{all-true}
+use Rattle.runner.specs.declared.Answer.the-variants.{Done}
 use Rattle.runner.specs.Ticks.{taken}
 use Rattle.runner.proofs.FirstFit.{fits-here, fits-later, fits-nowhere}
 use Rattle.runner.proofs.take_first.Statement.{statement}
@@ -88,14 +89,13 @@ returns c =
     let f = c .before .before .before in
     let s = f .before .before .before .before .before .before .before in
     let l = f .before .before .before .before .loop in
-    let e = edge (here s) (l .k) in
     let p = l .inv .1 ∙ fits-here (s .args .shown) (here s .edges) (l .k) (there (f .before .before .before)) (sym (asked f) ∙ c .before .before .if1 .taken) in
     let q = f .before .side-events .result in
-    let next = ap (λ x. x .next) (f .before .before .edge-at .ensures) in
-    let first = read-back (getD q 0 tick) (c .before .t15 .given) in
-    let second = read-back (getD q 1 tick) (c .t18 .given) in
     let m = made (f .before) in
-    cc (next, first, second, m) ∙ sym (ap (taken (s .args .runner)) p)
+    let next = ap (λ x. x .next) (f .before .before .edge-at .ensures) in
+    let first = read-back (getD q 0 tick) (c .before .t15 .given) ∙ ap (λ es. getD es 0 tick) m in
+    let second = read-back (getD q 1 tick) (c .t18 .given) ∙ ap (λ es. getD es 1 tick) m in
+    (λ i. record { answer = Done; runner = record { «record» = next i; first = first i; second = second i } }) ∙ sym (ap (taken (s .args .runner)) p)
 
 add-k : tie.Need-add-k Inv-loop μ-loop
 add-k c = search needs
