@@ -1,6 +1,6 @@
 -- A tick at the bytes is the model's tick with 17 for everything refused, where the converter's size is right and so is the record, if it is there.
-use mathlib.Core.Path.{_≡_, refl, sym, ap, ap₂, subst, _∙_}
-use mathlib.Core.Bool.{Bool, true, false, cond, true≢false}
+use mathlib.Core.Path.{_≡_, refl, sym, ap, subst, _∙_}
+use mathlib.Core.Bool.{Bool, true, false, cond}
 use mathlib.Core.List.{List, [], _∷_}
 use mathlib.Core.Option.{Option, none, some}
 use Prim.Native.Nat.{ℕ, zero, suc, _*_, _≤_, _<_}
@@ -10,7 +10,7 @@ use borrow.Author.Tests.{le-leb, le-ltb, lt-ltb}
 use lib.IntN.{pos, negsuc}
 use lib.ListN.{length, getD, length-map, List·getD-eq-default}
 use Rattle.model.specs.Events.{Event, tick, InRange, dual, duals, shown, shows}
-use Rattle.model.specs.Converters.{Edge, no-node, no-edge, node, edge, side-events}
+use Rattle.model.specs.Converters.{Edge, no-node, node, edge, side-events}
 use Rattle.model.specs.Judged.{all}
 use Rattle.model.specs.Runs as model
 use Rattle.model.specs.Runs.{first-fit}
@@ -23,7 +23,6 @@ use Rattle.layout.proofs.Accepted.{converter-length, two-events, right-well-for
 use Rattle.layout.proofs.Nodes.{WellFormedNode}
 use Rattle.layout.proofs.Tables.{as-table, and-true}
 use Rattle.runner.specs.declared.Runner.{Runner}
-use Rattle.runner.specs.declared.Answer.the-variants.{Done}
 use Rattle.runner.specs.declared.Ticked.{Ticked}
 use Rattle.runner.specs.Ticks.{delivered, can-show, tick-refusal, refused, moved-by, taken, ticked}
 use Rattle.runner.specs.Runs.{runner-of, ticked-of}

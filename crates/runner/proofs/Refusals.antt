@@ -1,5 +1,5 @@
 -- A tick by its refusal: what has passed where there is none, and what the tick is then and otherwise.
-use mathlib.Core.Path.{_≡_, refl, ap}
+use mathlib.Core.Path.{_≡_, refl}
 use mathlib.Core.Bool.{Bool, true, false, cond}
 use mathlib.Core.List.{List}
 use mathlib.Core.Option.{Option, none, some}

@@ -5,7 +5,7 @@ use mathlib.Core.List.{List, [], _∷_, map}
 use Prim.Native.Nat.{ℕ, _*_, _<_}
 use native.Mathlib.Omega.{arith}
 use borrow.Author.Tests.{eqb-false}
-use lib.ListN.{length, take}
+use lib.ListN.{take}
 use Rattle.model.specs.Events.{Event}
 use Rattle.model.specs.Sides.{Side}
 use Rattle.model.specs.Joined.{zeros}
@@ -18,7 +18,7 @@ use Rattle.model.proofs.Runs as model-runs
 use Rattle.layout.specs.Sizes.{record-bytes}
 use Rattle.layout.specs.Designs.{design}
 use Rattle.layout.specs.Converters.{records, converter}
-use Rattle.layout.specs.Refusals.{size-right, records-right, converter-refusal}
+use Rattle.layout.specs.Refusals.{records-right, converter-refusal}
 use Rattle.layout.proofs.Accepted.{accepted, converter-length}
 use Rattle.layout.proofs.FirstFailing.{passed}
 use Rattle.runner.specs.declared.Runner.{Runner}

@@ -1,11 +1,11 @@
 -- Shown events by their sign: what the tests `0 < x` and `0 <= x` say of what a side can show, and of what fits.
 use mathlib.Core.Path.{_≡_, refl, sym, _∙_}
-use mathlib.Core.Bool.{Bool, true, false, false≢true, true≢false}
+use mathlib.Core.Bool.{true, false, false≢true, true≢false}
 use Prim.Native.Nat.{zero, suc}
 use native.Mathlib.Omega.{arith}
 use borrow.Author.Tests.{ltb-true, ltb-false, ne-eqb}
 use lib.Dec.{leb·zero}
-use lib.IntN.{ℤ, pos, negsuc}
+use lib.IntN.{pos, negsuc}
 use lib.Signed.{ltZ, leZ}
 use Rattle.model.specs.Events.{Event, same-event}
 use Rattle.model.specs.Runs.{fits}

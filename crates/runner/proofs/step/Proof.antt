@@ -1,5 +1,5 @@
 -- `step` meets its contract: what the tests say, and behind them the transition that is taken.
-use mathlib.Core.Path.{_≡_, refl, sym, ap, ap₂, _∙_}
+use mathlib.Core.Path.{_≡_, sym, ap, ap₂, _∙_}
 use mathlib.Core.List.{List, [], _∷_}
 use borrow.Author.Needs.{needs}
 use mir.Syntax.{w8}
