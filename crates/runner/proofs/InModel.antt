@@ -10,7 +10,7 @@ use borrow.Author.Tests.{le-leb, le-ltb, lt-ltb}
 use lib.IntN.{pos, negsuc}
 use lib.ListN.{length, getD, length-map, List·getD-eq-default}
 use Rattle.model.specs.Events.{Event, tick, InRange, dual, duals, shown, shows}
-use Rattle.model.specs.Converters.{Edge, no-node, node, edge, side-events}
+use Rattle.model.specs.Converters.{Edge, Node, no-node, node, edge, side-events}
 use Rattle.model.specs.Judged.{all}
 use Rattle.model.specs.Runs as model
 use Rattle.model.specs.Runs.{first-fit}
@@ -42,16 +42,20 @@ shows-can [] f = refl
 shows-can (e ∷ es) f = and-true (can-show (shown (dual e))) (all can-show (shows (duals es))) (shown-can e (f 0 (omega arith))) (shows-can es (λ i h. f (suc i) (omega arith)))
 
 module _ (cs : List ℕ) (r : Runner) (xs : List Event) (sized : size-right cs ≡ true) where
+  -- the runner's record as a converter state
+  abbrev here : Node
+  here = node (converter cs) (r .«record»)
+
   -- the model's tick, of the decoded converter and runner
   abbrev decoded : model.Ticked
   decoded = model.ticked (converter cs) (runner-of r) xs
 
-  -- the same edges, by what fits among them
-  fitting : (o : Option Edge) → first-fit xs (node (converter cs) (r .«record») .edges) ≡ o → model.taken (runner-of r) o ≡ decoded
+  -- by what fits among its transitions
+  fitting : (o : Option Edge) → first-fit xs (here .edges) ≡ o → model.taken (runner-of r) o ≡ decoded
   unfolding model.ticked
   fitting o p = sym (ap (model.taken (runner-of r)) p)
 
-  -- 17
+  -- where the tests give 17, that is the model's answer where nothing fits
   refuses : tick-refusal cs (r .«record») xs ≡ 17 → ticked-of (ticked cs r xs) ≡ model.taken (runner-of r) none
   unfolding model.taken
   refuses e = ap ticked-of (stays cs r xs (λ z. let h : 17 ≡ 0 = sym e ∙ z in omega arith) ∙ ap (refused r) e)
@@ -65,7 +69,7 @@ module _ (cs : List ℕ) (r : Runner) (xs : List Event) (sized : size-right cs �
 
   -- ---- the record is there, and right
   module _ (there : r .«record» < records cs) (right : record-right cs (records cs) (record-bytes * r .«record») ≡ true) where
-    formed : WellFormedNode (records cs) (node (converter cs) (r .«record»))
+    formed : WellFormedNode (records cs) here
     formed = right-well-formed cs (r .«record») there right
 
     -- the tests that are left
@@ -74,40 +78,41 @@ module _ (cs : List ℕ) (r : Runner) (xs : List Event) (sized : size-right cs �
     refusal = rw (sized, lt-ltb (r .«record») (records cs) there, right)
 
     -- transition j has a side event for each side, and delivers them
-    delivers : (j : ℕ) → j < length (node (converter cs) (r .«record») .edges)
-        → delivered (moved-by (edge (node (converter cs) (r .«record»)) j)) ≡ side-events (edge (node (converter cs) (r .«record»)) j)
+    delivers : (j : ℕ) → j < length (here .edges)
+        → delivered (moved-by (edge here j)) ≡ side-events (edge here j)
     unfolding table table-from
     delivers j h =
-        let e = edge (node (converter cs) (r .«record»)) j in
+        let e = edge here j in
         sym (as-table tick side-count (side-events e) (length-map (e .events) dual ∙ two-events cs (r .«record») j there h (omega (arith, formed .at-most-eight))))
 
     -- what shows a transition can be shown
-    can : (j : ℕ) → j < length (node (converter cs) (r .«record») .edges) → ShowsAt xs (node (converter cs) (r .«record») .edges) j → all can-show xs ≡ true
-    can j h g = subst (λ ys. all can-show ys ≡ true) g (shows-can (edge (node (converter cs) (r .«record»)) j .events) (formed .in-range-at j h))
+    can : (j : ℕ) → j < length (here .edges) → ShowsAt xs (here .edges) j → all can-show xs ≡ true
+    can j h g = subst (λ ys. all can-show ys ≡ true) g (shows-can (edge here j .events) (formed .in-range-at j h))
 
     -- a transition fits
-    takes : (j : ℕ) → j < length (node (converter cs) (r .«record») .edges) → all can-show xs ≡ true
-        → first-fit xs (node (converter cs) (r .«record») .edges) ≡ some (edge (node (converter cs) (r .«record»)) j) → ticked-of (ticked cs r xs) ≡ decoded
+    takes : (j : ℕ) → j < length (here .edges) → all can-show xs ≡ true
+        → first-fit xs (here .edges) ≡ some (edge here j) → ticked-of (ticked cs r xs) ≡ decoded
     unfolding taken model.taken
     takes j h g p =
-        let e = edge (node (converter cs) (r .«record»)) j in
+        let e = edge here j in
         ap ticked-of (goes-on cs r xs (refusal ∙ ap (λ b. cond b 0 17) g) ∙ ap (taken r) p)
         ∙ ap (λ es. record { answer = model.done; runner = record { at = e .next; delivered = es } }) (delivers j h)
         ∙ fitting (some e) p
 
     -- none does
-    none-taken : first-fit xs (node (converter cs) (r .«record») .edges) ≡ none → (b : Bool) → all can-show xs ≡ b → ticked-of (ticked cs r xs) ≡ decoded
+    none-taken : first-fit xs (here .edges) ≡ none → (b : Bool) → all can-show xs ≡ b → ticked-of (ticked cs r xs) ≡ decoded
     unfolding taken model.taken
     none-taken p true g = ap ticked-of (goes-on cs r xs (refusal ∙ ap (λ b. cond b 0 17) g) ∙ ap (taken r) p) ∙ fitting none p
     none-taken p false g = refuses (refusal ∙ ap (λ b. cond b 0 17) g) ∙ fitting none p
 
-    present : Found xs (node (converter cs) (r .«record») .edges) → ticked-of (ticked cs r xs) ≡ decoded
+    present : Found xs (here .edges) → ticked-of (ticked cs r xs) ≡ decoded
     present (found j h p g first) = takes j h (can j h g) p
     present (none-fits p f) = none-taken p (all can-show xs) refl
 
+  -- the theorem
   pub in-model : (r .«record» < records cs → record-right cs (records cs) (record-bytes * r .«record») ≡ true) → ticked-of (ticked cs r xs) ≡ decoded
   in-model right = by (decLt (r .«record») (records cs))
     where
       by : Dec (r .«record» < records cs) → ticked-of (ticked cs r xs) ≡ decoded
-      by (yes h) = present h (right h) (find xs (node (converter cs) (r .«record») .edges))
+      by (yes h) = present h (right h) (find xs (here .edges))
       by (no n) = absent (omega arith)
