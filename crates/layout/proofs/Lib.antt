@@ -1,0 +1,5 @@
+-- Lemmas that several functions' proofs cite.
+pub mod Parts
+pub mod Put
+pub mod SignedBytes
+pub mod Tables
