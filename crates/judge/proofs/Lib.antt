@@ -1,0 +1,2 @@
+-- Lemmas that several functions' proofs cite.
+pub mod CellLaws
