@@ -1,5 +1,9 @@
 -- Lemmas that several functions' proofs cite.
+pub mod ConverterBytes
+pub mod Nodes
 pub mod Parts
+pub mod Pieces
 pub mod Put
+pub mod RecordBytes
 pub mod SignedBytes
 pub mod Tables

@@ -7,6 +7,7 @@ use native.Mathlib.Nat.{not-suc-le-zero}
 use native.Mathlib.Decide.{ℕ-discrete}
 use native.Mathlib.Omega.{arith}
 use lib.ListN.{length, getD}
+use lib.Seq.{ext-getD}
 use Rattle.model.specs.Judged.{all}
 use Rattle.layout.specs.Tables.{table, table-from, every}
 
@@ -28,6 +29,10 @@ and-left false b p = p
 pub and-right : (a b : Bool) → (a && b) ≡ true → b ≡ true
 and-right true b p = p
 and-right false b p = absurd (false≢true p)
+
+pub and-unit : (a : Bool) → (a && true) ≡ a
+and-unit true = refl
+and-unit false = refl
 
 -- ---- each number below n
 module _ (p : ℕ → Bool) where
@@ -88,3 +93,8 @@ module _ {A : Type 0} (f : ℕ → A) where
   pub entry : (d : A) (n k : ℕ) → k < n → getD (table n f) k d ≡ f k
   unfolding table
   entry d n k h = entry-from d 0 n k h ∙ ap f (omega arith)
+
+-- a list is the table of its entries
+pub as-table : {A : Type 0} (d : A) (n : ℕ) (l : List A) → length l ≡ n → l ≡ table n (λ k. getD l k d)
+as-table d n l e =
+    ext-getD d l (table n (λ k. getD l k d)) (e ∙ sym (length-table (λ k. getD l k d) n)) (λ k h. sym (entry (λ j. getD l j d) d n k (omega arith)))

@@ -1,6 +1,8 @@
 // Bytes: designs, converters and blocks, with every refusal in its order. Offsets stand here and nowhere above.
+pub mod converters;
 pub mod events;
 pub mod ranges;
 pub mod records;
+pub mod sizes;
 pub mod states;
 pub mod words;

@@ -35,6 +35,7 @@ pub mod Judged
 pub mod Untils
 pub mod Kept
 pub mod Masks
+pub mod Held
 pub mod Strategy
 pub mod Game
 pub mod Truths
@@ -44,6 +45,7 @@ pub mod Built
 pub mod Shows
 pub mod Places
 pub mod Winning
+pub mod Stamps
 pub mod Stages
 pub mod Solved
 -- runs

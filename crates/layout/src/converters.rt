@@ -1,0 +1,101 @@
+// A converter in memory: records of 36 bytes, one after the other; refusals 10 and 11, and what each record holds.
+ghost use mathlib.Core.Path.{_≡_};
+ghost use mathlib.Core.Bool.{_&&_};
+ghost use Prim.Native.Nat.{_+_, _*_, _<_, _≤_};
+ghost use lib.Dec.{ltb};
+ghost use lib.ListN.{length};
+ghost use Rattle.model.specs.Converters.{node, edge};
+ghost use Rattle.model.specs.Judged.{all};
+ghost use Rattle.layout.specs.Sizes.{record-bytes, most-states, place-count};
+ghost use Rattle.layout.specs.Records.{node-of, edge-of};
+ghost use Rattle.layout.specs.Converters.{records, converter};
+ghost use Rattle.layout.specs.Tests.{in-range};
+ghost use Rattle.layout.specs.Refusals.{size-right};
+use crate::events;
+use crate::records;
+use crate::records::{Record, Transition};
+use crate::sizes::{COUNT_AT, MOST_RECORDS, MOST_STATES, RECORD_BYTES, SIDE_COUNT};
+
+// How many records there are.
+pub fn count(s: &[u8]) -> usize
+    ensures { λ r. ⌜ r ≡ records (now (s .entry)) ⌝ }
+{
+    s.len() / RECORD_BYTES
+}
+
+// ---- what record c holds
+
+pub fn record(s: &[u8], c: usize) -> Record
+    requires { ⌜ c < records (now s) ⌝ }
+    ensures { λ r. ⌜ node-of r ≡ node (converter (now (s .entry))) c ⌝ }
+{
+    records::read_record(s, RECORD_BYTES * c)
+}
+
+// The states of the sides that it names.
+pub fn names(s: &[u8], c: usize) -> [u8; 2]
+    requires { ⌜ c < records (now s) ⌝ }
+    ensures { λ r. ⌜ r ≡ node (converter (now (s .entry))) c .names ⌝ }
+{
+    let at = RECORD_BYTES * c;
+    [s[at], s[at + 1]]
+}
+
+// How many transitions it has.
+pub fn edge_count(s: &[u8], c: usize) -> usize
+    requires { ⌜ c < records (now s) ⌝ }
+    ensures { λ r. ⌜ r ≡ length (node (converter (now (s .entry))) c .edges) ⌝ }
+{
+    s[RECORD_BYTES * c + COUNT_AT] as usize
+}
+
+// Its transition k.
+pub fn edge_at(s: &[u8], c: usize, k: usize) -> Transition
+    requires { ⌜ (c < records (now s)) × (k < length (node (converter (now s)) c .edges)) × (k < place-count) ⌝ }
+    ensures { λ r. ⌜ edge-of r ≡ edge (node (converter (now (s .entry))) c) k ⌝ }
+{
+    records::read_transition(s, RECORD_BYTES * c, k)
+}
+
+// ---- refusals 10 and 11
+
+// Whether there are 1 to 65,536 whole records (10).
+pub fn size_right(s: &[u8]) -> bool
+    ensures { λ r. ⌜ r ≡ size-right (now (s .entry)) ⌝ }
+{
+    if s.len() == 0 {
+        return false;
+    }
+    if s.len() % RECORD_BYTES != 0 {
+        return false;
+    }
+    count(s) <= MOST_RECORDS
+}
+
+// Whether each is a number that a state can have.
+fn names_right(names: [u8; 2]) -> bool
+    ensures { λ r. ⌜ r ≡ all (λ s. ltb s most-states) names ⌝ }
+{
+    let mut i = 0;
+    while i < SIDE_COUNT {
+        if MOST_STATES <= names[i] {
+            return false;
+        }
+        i += 1;
+    }
+    true
+}
+
+// Whether a transition has events in range and a next record that is there, of n.
+fn transition_right(t: Transition, n: usize) -> bool
+    ensures { λ r. ⌜ r ≡ (all in-range (t .events) && ltb (t .next) n) ⌝ }
+{
+    let mut i = 0;
+    while i < SIDE_COUNT {
+        if !events::in_range(t.events[i]) {
+            return false;
+        }
+        i += 1;
+    }
+    (t.next as usize) < n
+}
