@@ -1,5 +1,6 @@
 -- Lemmas that several functions' proofs cite.
 pub mod ConverterBytes
+pub mod DesignBytes
 pub mod Nodes
 pub mod Parts
 pub mod Pieces

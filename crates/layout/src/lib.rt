@@ -1,6 +1,8 @@
 // Bytes: designs, converters and blocks, with every refusal in its order. Offsets stand here and nowhere above.
 pub mod converters;
+pub mod designs;
 pub mod events;
+pub mod formulas;
 pub mod ranges;
 pub mod records;
 pub mod sizes;
