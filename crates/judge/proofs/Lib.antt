@@ -1,2 +1,4 @@
 -- Lemmas that several functions' proofs cite.
 pub mod CellLaws
+pub mod Accepted
+pub mod Greatest

@@ -1,2 +1,3 @@
 // The judge.
 mod cells;
+mod graph;
