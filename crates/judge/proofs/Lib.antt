@@ -2,3 +2,6 @@
 pub mod CellLaws
 pub mod Accepted
 pub mod Greatest
+pub mod SweepLaws
+pub mod UntilRanks
+pub mod AlwaysFalls
