@@ -1,3 +1,5 @@
 // The judge.
 mod cells;
 mod graph;
+mod sweeps;
+mod until;
