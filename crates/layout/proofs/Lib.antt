@@ -1,6 +1,9 @@
 -- Lemmas that several functions' proofs cite.
+pub mod Accepted
 pub mod ConverterBytes
 pub mod DesignBytes
+pub mod FirstFailing
+pub mod Made
 pub mod Nodes
 pub mod Parts
 pub mod Pieces

@@ -9,12 +9,28 @@ ghost use Rattle.model.specs.Judged.{all};
 ghost use Rattle.layout.specs.Sizes.{record-bytes, most-states, place-count};
 ghost use Rattle.layout.specs.Records.{node-of, edge-of};
 ghost use Rattle.layout.specs.Converters.{records, converter};
-ghost use Rattle.layout.specs.Tests.{in-range};
-ghost use Rattle.layout.specs.Refusals.{size-right};
+ghost use Rattle.layout.specs.Tests.{in-range, node-right};
+ghost use Rattle.layout.specs.Refusals.{
+  size-right,
+  record-right,
+  records-right,
+  converter-refusal,
+};
 use crate::events;
+use crate::ranges;
 use crate::records;
-use crate::records::{Record, Transition};
-use crate::sizes::{COUNT_AT, MOST_RECORDS, MOST_STATES, RECORD_BYTES, SIDE_COUNT};
+use crate::records::Outcome;
+use crate::records::Record;
+use crate::records::Transition;
+use crate::sizes::COUNT_AT;
+use crate::sizes::GAP_AT;
+use crate::sizes::MOST_RECORDS;
+use crate::sizes::MOST_STATES;
+use crate::sizes::PLACE_COUNT;
+use crate::sizes::PLACES_AT;
+use crate::sizes::RECORD_BYTES;
+use crate::sizes::SIDE_COUNT;
+use crate::sizes::TRANSITION_BYTES;
 
 // How many records there are.
 pub fn count(s: &[u8]) -> usize
@@ -98,4 +114,84 @@ fn transition_right(t: Transition, n: usize) -> bool
         i += 1;
     }
     (t.next as usize) < n
+}
+
+// Whether a record by itself is right, among n (11): its transitions are added one by one to a record that has none, so that an event pair
+// that stands twice is found present.
+fn node_right(r: Record, n: usize) -> bool
+    ensures { λ b. ⌜ b ≡ node-right n (node-of r) ⌝ }
+{
+    let names = r.names;
+    if !names_right(names) {
+        return false;
+    }
+    let count = r.count as usize;
+    if count == 0 {
+        return false;
+    }
+    if PLACE_COUNT < count {
+        return false;
+    }
+    let mut made = Record::new(names);
+    let mut k = 0;
+    // The first k transitions are right, and `made` has them.
+    while k < count {
+        let t = r.places[k];
+        if !transition_right(t, n) {
+            return false;
+        }
+        let addition = made.add(t);
+        let outcome = addition.outcome;
+        let Outcome::Added = outcome else {
+            return false;
+        };
+        made = addition.left;
+        k += 1;
+    }
+    true
+}
+
+// Whether the record at `at` is right, in a converter of n records (11).
+pub fn record_right(s: &[u8], n: usize, at: usize) -> bool
+    requires { ⌜ at + record-bytes ≤ length (now s) ⌝ }
+    ensures { λ r. ⌜ r ≡ record-right (now (s .entry)) n at ⌝ }
+{
+    let r = records::read_record(s, at);
+    if !node_right(r, n) {
+        return false;
+    }
+    if s[at + GAP_AT] != 0 {
+        return false;
+    }
+    let used = TRANSITION_BYTES * (r.count as usize);
+    ranges::is_zero(s, at + PLACES_AT + used, RECORD_BYTES - PLACES_AT - used)
+}
+
+// Whether all records are right (11).
+pub fn records_right(s: &[u8]) -> bool
+    ensures { λ r. ⌜ r ≡ records-right (now (s .entry)) ⌝ }
+{
+    let n = count(s);
+    let mut k = 0;
+    // The first k records are right.
+    while k < n {
+        if !record_right(s, n, RECORD_BYTES * k) {
+            return false;
+        }
+        k += 1;
+    }
+    true
+}
+
+// 10 or 11 for bytes that are no converter, and 0 for a converter.
+pub fn converter_refusal(s: &[u8]) -> u8
+    ensures { λ r. ⌜ r ≡ converter-refusal (now (s .entry)) ⌝ }
+{
+    if !size_right(s) {
+        return 10;
+    }
+    if !records_right(s) {
+        return 11;
+    }
+    0
 }

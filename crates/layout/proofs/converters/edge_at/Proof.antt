@@ -5,19 +5,13 @@ use Rattle.layout.proofs.ConverterBytes.{edge-read}
 use borrow.Author.Needs.{needs}
 use Rattle.layout.proofs.converters.edge_at.Statement.{statement}
 use Rattle.layout.proofs.converters.edge_at.Tie as tie
-use Rattle.layout.proofs.converters.edge_at.Reads as reads
-use Rattle.layout.proofs.converters.edge_at.Lts as lts
-use Rattle.layout.proofs.records.read_transition.Reads as read-transition-reads
 
--- src/converters.rt:57:33
 mul-read-transition : tie.Need-mul-read-transition
 mul-read-transition c = search needs
 
--- src/converters.rt:57:5
 read-transition-requires : tie.Need-read-transition-requires
 read-transition-requires c κs = search needs
 
--- src/converters.rt:53:1
 returns : tie.Need-returns
 returns c =
     let a = c .before .before .args in

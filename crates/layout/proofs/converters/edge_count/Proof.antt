@@ -5,26 +5,19 @@ use Rattle.layout.proofs.ConverterBytes.{edges-at}
 use borrow.Author.Needs.{needs}
 use Rattle.layout.proofs.converters.edge_count.Statement.{statement}
 use Rattle.layout.proofs.converters.edge_count.Tie as tie
-use Rattle.layout.proofs.converters.edge_count.Reads as reads
-use Rattle.layout.proofs.converters.edge_count.Lts as lts
 
--- src/converters.rt:49:7
 mul-result : tie.Need-mul-result
 mul-result c = search needs
 
--- src/converters.rt:49:7
 add-result : tie.Need-add-result
 add-result c = search needs
 
--- src/converters.rt:49:5
 shared-slice-read-result : tie.Need-shared-slice-read-result
 shared-slice-read-result c = search needs
 
--- src/converters.rt:49:5
 cast-result : tie.Need-cast-result
 cast-result c = omega (arith, c .shared-slice-known .given (36 * c .before .args .c + 2))
 
--- src/converters.rt:45:1
 returns : tie.Need-returns
 returns c = edges-at (c .before .args .s .now) (c .before .args .c) (c .before .pre)
 

@@ -1,5 +1,5 @@
 -- `converters::names` meets its contract: the record's first bytes.
-use mathlib.Core.Path.{_≡_, sym, ap, _∙_}
+use mathlib.Core.Path.{sym, ap, _∙_}
 use mathlib.Core.List.{[], _∷_}
 use Prim.Native.Nat.{_+_, _*_}
 use native.Mathlib.Nat.{add-zero}
@@ -9,26 +9,19 @@ use Rattle.layout.proofs.ConverterBytes.{names-at}
 use borrow.Author.Needs.{needs}
 use Rattle.layout.proofs.converters.names.Statement.{statement}
 use Rattle.layout.proofs.converters.names.Tie as tie
-use Rattle.layout.proofs.converters.names.Reads as reads
-use Rattle.layout.proofs.converters.names.Lts as lts
 
--- src/converters.rt:40:14
 mul-at : tie.Need-mul-at
 mul-at c = search needs
 
--- src/converters.rt:41:6
 shared-slice-read-t5 : tie.Need-shared-slice-read-t5
 shared-slice-read-t5 c = search needs
 
--- src/converters.rt:41:15
 add-t6 : tie.Need-add-t6
 add-t6 c = search needs
 
--- src/converters.rt:41:13
 shared-slice-read-t8 : tie.Need-shared-slice-read-t8
 shared-slice-read-t8 c = search needs
 
--- src/converters.rt:36:1
 returns : tie.Need-returns
 unfolding table table-from
 returns c =

@@ -1,7 +1,7 @@
 -- `converters::names_right` meets its contract. The invariant: the first i names are right.
-use mathlib.Core.Path.{_≡_, refl, sym, ap, _∙_}
+use mathlib.Core.Path.{_≡_, sym}
 use mathlib.Core.Bool.{Bool}
-use Prim.Native.Nat.{ℕ, _+_, _-_, _<_, _≤_}
+use Prim.Native.Nat.{ℕ, _-_, _<_, _≤_}
 use native.Mathlib.Nat.{not-suc-le-zero}
 use native.Mathlib.Omega.{arith}
 use borrow.Author.Count.{below-more}
@@ -13,8 +13,6 @@ use Rattle.layout.specs.Sizes.{side-count, most-states}
 use Rattle.layout.proofs.Tables.{all-true, all-false}
 use Rattle.layout.proofs.converters.names_right.Statement.{statement}
 use Rattle.layout.proofs.converters.names_right.Tie as tie
-use Rattle.layout.proofs.converters.names_right.Reads as reads
-use Rattle.layout.proofs.converters.names_right.Lts as lts
 
 abbrev Inv-loop : tie.InvT-loop
 Inv-loop names i₀ i = (i ≤ side-count) × ((k : ℕ) → k < i → getD names k 0 < most-states)

@@ -5,19 +5,13 @@ use Rattle.layout.proofs.ConverterBytes.{node-at}
 use borrow.Author.Needs.{needs}
 use Rattle.layout.proofs.converters.record.Statement.{statement}
 use Rattle.layout.proofs.converters.record.Tie as tie
-use Rattle.layout.proofs.converters.record.Reads as reads
-use Rattle.layout.proofs.converters.record.Lts as lts
-use Rattle.layout.proofs.records.read_record.Reads as read-record-reads
 
--- src/converters.rt:32:29
 mul-read-record : tie.Need-mul-read-record
 mul-read-record c = search needs
 
--- src/converters.rt:32:5
 read-record-requires : tie.Need-read-record-requires
 read-record-requires c κs = search needs
 
--- src/converters.rt:28:1
 returns : tie.Need-returns
 returns c = ap node-of (c .read-record .ensures) ∙ node-at (c .before .before .args .s .now) (c .before .before .args .c) (c .before .before .pre)
 

@@ -1,38 +1,29 @@
 -- `converters::size_right` meets its contract, test by test.
-use mathlib.Core.Path.{_≡_, sym, ap, _∙_}
-use Prim.Native.Nat.{_%_, _/_}
+use Prim.Native.Nat.{_%_}
 use native.Mathlib.Omega.{arith}
 use borrow.Author.Tests.{le-leb, lt-leb, eq-eqb, ne-eqb}
-use lib.Dec.{leb, eqb}
 use lib.ListN.{length}
 use Rattle.layout.specs.Refusals.{size-right}
 use borrow.Author.Needs.{needs}
 use Rattle.layout.proofs.converters.size_right.Statement.{statement}
 use Rattle.layout.proofs.converters.size_right.Tie as tie
-use Rattle.layout.proofs.converters.size_right.Reads as reads
-use Rattle.layout.proofs.converters.size_right.Lts as lts
-use Rattle.layout.proofs.converters.count.Reads as count-reads
 
--- src/converters.rt:67:9
 returns : tie.Need-returns
 unfolding size-right
 returns c = rw (lt-leb 1 (length (c .before .before .args .s .now)) (omega arith))
 
--- src/converters.rt:70:9
 returns-2 : tie.Need-returns-2
 unfolding size-right
 returns-2 c =
     let l = length (c .before .before .before .args .s .now) in
     rw (le-leb 1 l (omega arith), ne-eqb (l % 36) 0 (c .if2 .taken))
 
--- src/converters.rt:72:5
 count-requires : tie.Need-count-requires
 count-requires c κs = search needs
 
--- src/converters.rt:63:1
 returns-3 : tie.Need-returns-3
 unfolding size-right
-returns-3 c = 
+returns-3 c =
     let l = length (c .before .before .before .before .args .s .now) in
     rw (le-leb 1 l (omega arith), eq-eqb (l % 36) 0 (omega arith), c .count .ensures)
 

@@ -1,7 +1,7 @@
 -- `converters::transition_right` meets its contract. The invariant: the first i events are in range.
-use mathlib.Core.Path.{_≡_, refl, sym, ap, _∙_}
+use mathlib.Core.Path.{_≡_, sym, ap, _∙_}
 use mathlib.Core.Bool.{true, _&&_}
-use Prim.Native.Nat.{ℕ, _+_, _-_, _<_, _≤_}
+use Prim.Native.Nat.{ℕ, _-_, _<_, _≤_}
 use native.Mathlib.Nat.{not-suc-le-zero}
 use native.Mathlib.Omega.{arith}
 use borrow.Author.Count.{below-more}
@@ -17,9 +17,6 @@ use Rattle.layout.proofs.SignedBytes.{read-back}
 use Rattle.layout.proofs.Tables.{all-true, all-false, and-false}
 use Rattle.layout.proofs.converters.transition_right.Statement.{statement}
 use Rattle.layout.proofs.converters.transition_right.Tie as tie
-use Rattle.layout.proofs.converters.transition_right.Reads as reads
-use Rattle.layout.proofs.converters.transition_right.Lts as lts
-use Rattle.layout.proofs.events.in_range.Reads as in-range-reads
 
 abbrev Inv-loop : tie.InvT-loop
 Inv-loop n t i₀ i = (i ≤ side-count) × ((k : ℕ) → k < i → in-range (getD (t .events) k tick) ≡ true)
