@@ -1,6 +1,6 @@
 -- Lemmas that several functions' proofs cite.
 pub mod CellLaws
-pub mod Accepted
+pub mod NextRecords
 pub mod Greatest
 pub mod SweepLaws
 pub mod UntilRanks
