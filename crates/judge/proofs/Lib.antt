@@ -4,4 +4,5 @@ pub mod NextRecords
 pub mod Greatest
 pub mod SweepLaws
 pub mod UntilRanks
+pub mod UntilMarks
 pub mod AlwaysFalls
