@@ -6,3 +6,4 @@ pub mod SweepLaws
 pub mod UntilRanks
 pub mod UntilMarks
 pub mod AlwaysFalls
+pub mod AlwaysMarks

@@ -1,4 +1,5 @@
 // The judge.
+mod always;
 mod cells;
 mod graph;
 mod sweeps;
