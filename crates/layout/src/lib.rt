@@ -2,5 +2,6 @@
 pub mod events;
 pub mod ranges;
 pub mod records;
+pub mod sizes;
 pub mod states;
 pub mod words;
