@@ -3,7 +3,7 @@ use mathlib.Core.Bool.{Bool, _&&_}
 use mathlib.Core.Logic.{_↔_}
 use mathlib.Core.List.{List, List·Memᴰ as In}
 use Prim.Native.Nat.{ℕ, _<_}
-use lib.Dec.{T, ltb, leb, leb→le, le→leb, ltb→lt, lt→ltb}
+use lib.Dec.{T, ltb, leb→le, le→leb, ltb→lt, lt→ltb}
 use lib.ListN.{length, getD}
 use Rattle.model.specs.Formulas.{Form, truth, falsity, prop, nprop, conj, disj, ax, au, ag, LowerForm, Lower, PropForm, Propositions}
 use Rattle.model.proofs.Bools.{and-both, both-and}

@@ -14,11 +14,11 @@ use mathlib.Core.List.{
 }
 use Prim.Native.Nat.{ℕ, _≤_, _<_}
 use native.Mathlib.Omega.{arith}
-use lib.Dec.{T, eqb, leb, leb→le, eqb→eq}
+use lib.Dec.{T, leb, leb→le, eqb→eq}
 use lib.ListN.{length}
 use Rattle.model.specs.Sides.{Side, state, WellFormedState, HasKind, WellFormedSide}
 use Rattle.model.specs.Formulas.{Lower, Propositions}
-use Rattle.model.specs.Designs.{Design, WellFormed}
+use Rattle.model.specs.Designs.{WellFormed}
 use Rattle.model.specs.Judged.{all}
 use Rattle.model.proofs.Bools.{and-both, both-and}
 use Rattle.model.proofs.Lists.{all-in, in-all, of-map}
@@ -27,7 +27,7 @@ use Rattle.layout.specs.Blocks.{Block, kernel, host, formulas, rules, si
 use Rattle.layout.specs.States.{state-at, state-of}
 use Rattle.layout.specs.Designs.{side-in, design}
 use Rattle.layout.specs.Tests.{side-right, kinds-right, forms-right, rules-right}
-use Rattle.layout.specs.Refusals.{first-failing, check-right, header-right, count-right, unused-right, kinds-known, formulas-right, design-tests, design-refusal}
+use Rattle.layout.specs.Refusals.{check-right, header-right, count-right, unused-right, kinds-known, formulas-right, design-refusal}
 use Rattle.layout.proofs.Tables.{length-table}
 use Rattle.layout.proofs.StateTests.{side-states-formed, side-kinds-formed}
 use Rattle.layout.proofs.FormulaTests.{formulas-formed, rules-formed}

@@ -1,7 +1,6 @@
 // Ranges of bytes: added up, tested for zeros, filled and copied.
 ghost use mathlib.Core.Path.{_≡_};
-ghost use mathlib.Core.List.{List};
-ghost use Prim.Native.Nat.{ℕ, _+_, _≤_};
+ghost use Prim.Native.Nat.{_+_, _≤_};
 ghost use lib.ListN.{length, replicate};
 ghost use Rattle.layout.specs.Sizes.{check-in-block};
 ghost use Rattle.layout.specs.Bytes.{part, check, all-zero, put};
