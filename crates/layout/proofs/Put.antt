@@ -1,8 +1,9 @@
 -- Bytes put in the place of others (`put`): by single stores, one piece behind another, and read again.
 use mathlib.Core.Path.{_≡_, sym, ap, _∙_}
 use mathlib.Core.List.{List, [], _∷_, _++_, append-assoc}
-use Prim.Native.Nat.{ℕ, _+_, _≤_, _<_}
+use Prim.Native.Nat.{ℕ, suc, _+_, _≤_, _<_}
 use native.Mathlib.Nat.{add-assoc}
+use native.Mathlib.Numerals.{add-one}
 use native.Mathlib.Omega.{arith}
 use lib.ListN.{length, take, drop, set, replicate, length-append, length-replicate, replicate-append-replicate}
 use lib.Seq.{sets, sets-eq, length-sets, take-at, drop-at, drop-drop, length-take-le}
@@ -13,6 +14,17 @@ use Rattle.layout.proofs.Parts.{length-part, part-more}
 pub put-sets : (vs bs : List ℕ) (at : ℕ) → at + length vs ≤ length bs → sets bs at vs ≡ put bs at vs
 unfolding put
 put-sets vs bs at h = sets-eq vs bs at h
+
+pub put-pair : (bs : List ℕ) (at x y : ℕ) → at + 2 ≤ length bs → set (set bs at x) (at + 1) y ≡ put bs at (x ∷ y ∷ [])
+put-pair bs at x y h = rw add-one (put-sets (x ∷ y ∷ []) bs at h)
+
+pub put-four : (bs : List ℕ) (at x y z w : ℕ) → at + 4 ≤ length bs
+    → set (set (set (set bs at x) (at + 1) y) (at + 2) z) (at + 3) w ≡ put bs at (x ∷ y ∷ z ∷ w ∷ [])
+put-four bs at x y z w h =
+    let e₁ : at + 1 ≡ suc at = omega arith in
+    let e₂ : at + 2 ≡ suc (suc at) = omega arith in
+    let e₃ : at + 3 ≡ suc (suc (suc at)) = omega arith in
+    rw (e₁, e₂, e₃) (put-sets (x ∷ y ∷ z ∷ w ∷ []) bs at h)
 
 -- nothing put
 pub put-nil : (bs : List ℕ) (at : ℕ) → at ≤ length bs → put bs at [] ≡ bs
@@ -47,6 +59,9 @@ put-put vs ws bs at h =
     ∙ ap (λ l. take at bs ++ vs ++ ws ++ l) (behind-put vs bs at (length ws) (omega arith))
     ∙ ap (λ l. l ++ drop (at + length vs + length ws) bs) (append-assoc (take at bs) vs ws)
     ∙ ap (λ n. take at bs ++ (vs ++ ws) ++ drop n bs) (add-assoc at (length vs) (length ws) ∙ ap (λ n. at + n) (sym (length-append vs ws)))
+
+pub put-behind : (vs ws bs : List ℕ) (at i : ℕ) → length vs ≡ i → at + i + length ws ≤ length bs → put (put bs at vs) (at + i) ws ≡ put bs at (vs ++ ws)
+put-behind vs ws bs at i e h = ap (λ n. put (put bs at vs) (at + n) ws) (sym e) ∙ put-put vs ws bs at (omega arith)
 
 -- one byte more
 pub put-more : (vs bs : List ℕ) (at v : ℕ) → at + length vs < length bs → set (put bs at vs) (at + length vs) v ≡ put bs at (vs ++ (v ∷ []))

@@ -1,11 +1,11 @@
 -- 01, "Bytes": a converter record, 36 bytes: state of side 1, state of side 2, count, 0, then eight times (event for side 1, event for side 2, next
 -- record as 16 bits). And what it is to add a transition to a record.
 use mathlib.Core.Bool.{Bool, not, cond}
-use mathlib.Core.List.{List, [], _∷_, _++_, map, flatten}
+use mathlib.Core.List.{List, [], _∷_, _++_, flatten}
 use Prim.Native.Nat.{ℕ, _+_, _*_}
 use lib.Dec.{ltb}
 use lib.ListN.{getD, set}
-use Rattle.model.specs.Events.{Event}
+use Rattle.model.specs.Events.{Event, tick}
 use Rattle.model.specs.Converters.{Edge, Node}
 use Rattle.model.specs.Judged.{same-events}
 use Rattle.layout.specs.declared.records.Transition.{Transition}
@@ -41,11 +41,18 @@ node-of r = record { names = r .names; edges = table (r .count) (λ k. edge-of (
 
 -- ---- writing
 abbrev pub transition-to : Transition → List ℕ
-transition-to t = map event-byte (t .events) ++ word-bytes (t .next)
+transition-to t = table side-count (λ i. event-byte (getD (t .events) i tick)) ++ word-bytes (t .next)
+
+-- the names, the count and the unused byte
+abbrev pub header-to : Record → List ℕ
+header-to r = table side-count (λ i. getD (r .names) i 0) ++ (r .count ∷ 0 ∷ [])
+
+unfoldable pub places-to : Record → List ℕ
+places-to r = flatten (table place-count (λ k. transition-to (getD (r .places) k no-transition)))
 
 -- the 36 bytes of a record
-unfoldable pub record-to : Record → List ℕ
-record-to r = r .names ++ (r .count ∷ 0 ∷ flatten (map transition-to (r .places)))
+abbrev pub record-to : Record → List ℕ
+record-to r = header-to r ++ places-to r
 
 -- ---- "at least one transition, and no event pair twice"
 -- a transition that names no next record and no event: what stands in a place that is not used

@@ -5,5 +5,6 @@ pub mod formulas;
 pub mod joint;
 pub mod ranges;
 pub mod records;
+pub mod sizes;
 pub mod states;
 pub mod words;

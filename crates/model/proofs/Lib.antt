@@ -1,30 +1,41 @@
--- The theorems. Read first: `Judged` (theorem 1), `Solved` (theorem 2) and `Runs` (theorem 3).
+-- The theorems. A visitor reads first: `Judged` (the judge's answer is the path meaning), `Solved` (the method decides), `Runs` (every run is right),
+-- `Maps` (ACTL between systems) and `Rows` (the starred rows of 01).
+
+-- tests, lists and numbers
 pub mod Bools
 pub mod Lists
 pub mod Count
 pub mod Finite
+-- sets as numbers
 pub mod Sets
 pub mod Subsets
+-- numbered formulas
 pub mod Grow
 pub mod Shape
 pub mod Value
+-- the labelling theorem
 pub mod Graph
 pub mod Labelling
 pub mod Right
 pub mod Rounds
 pub mod Labels
 pub mod Maps
+-- sides and matched converters
 pub mod SameEvent
 pub mod StateKinds
 pub mod Joint
 pub mod JointMoves
+pub mod OneEach
+pub mod TwoSides
+pub mod Alone
 pub mod Tally
 pub mod MatchedTest
 pub mod Judged
-pub mod Alone
+-- the method
 pub mod Untils
 pub mod Kept
 pub mod Masks
+pub mod Held
 pub mod Strategy
 pub mod Game
 pub mod Truths
@@ -34,10 +45,16 @@ pub mod Built
 pub mod Shows
 pub mod Places
 pub mod Winning
+pub mod Stamps
 pub mod Stages
 pub mod Solved
+-- runs
 pub mod Fits
 pub mod Plain
 pub mod Runs
-pub mod OneEach
-pub mod TwoSides
+-- rows
+pub mod Formed
+pub mod Ways
+pub mod Refuted
+pub mod RowData
+pub mod Rows

@@ -61,9 +61,10 @@ of-rotated n a k i =
 rotated-begins : (n a : ℕ) → a < n → Begins a (rotated n a)
 unfolding rotated upto
 rotated-begins n a h =
-    let whole : length (upto n) ≡ n = tabulate-length n (λ k. k) in
-    (drop (suc a) (upto n) ++ take a (upto n),
-    ap (λ (l : List ℕ). l ++ take a (upto n)) (drop-cons (upto n) a 0 (omega arith) ∙ ap (λ (x : ℕ). x ∷ drop (suc a) (upto n)) (tabulate-at n (λ k. k) a 0 h)))
+    let whole : length (upto n) ≡ n = tabulate-length n (λ k. k) in (
+      drop (suc a) (upto n) ++ take a (upto n),
+      ap (λ (l : List ℕ). l ++ take a (upto n)) (drop-cons (upto n) a 0 (omega arith) ∙ ap (λ (x : ℕ). x ∷ drop (suc a) (upto n)) (tabulate-at n (λ k. k) a 0 h)),
+    )
 
 -- a converter that works and is no larger than the game, or none works
 pub data Solution (D : Design) : Type 0 where

@@ -101,11 +101,20 @@ module _ (Ss : List Side) (fs : List Form) (M : Masks fs) (U : Untils fs) where
                 (λ (w : (n : M .Mask) × In n ms × Discharging X (p c .joint) (p c .owed) (p c .turn) n). stage-discharge (suc k) (p c .joint) (p c .owed) (p c .turn) w)
                 (λ (w : (n : M .Mask) × In n ms × Waiting (stage j) (p c .joint) (p c .owed) (p c .turn) n).
                 let l = listed Ss ms (U .count) outside c h in
-                stage-wait k (p c .joint) (p c .owed) (p c .turn)
-                (w .0, w .1, (w .2 .0, (w .2 .1 .0, λ es ts a.
-                let r = w .2 .1 .1 es ts a in
-                let there : Names Ss (r .1) = targets-there Ss reg (p c .joint) (l .joint-there) (r .0) (r .1) (r .2) in
-                (r .0, r .1, r .2, r .3, every-place Ss ms (U .count) outside (λ s m i. T (stage j s m i) → T (stage k s m i)) in-k (r .1) (w .0) (p c .turn) there (w .1) (l .turn-there) (r .4))))))
+                stage-wait k (p c .joint) (p c .owed) (p c .turn) (
+                  w .0,
+                  w .1,
+                  (
+                    w .2 .0,
+                    (
+                      w .2 .1 .0,
+                      λ es ts a.
+                          let r = w .2 .1 .1 es ts a in
+                          let there : Names Ss (r .1) = targets-there Ss reg (p c .joint) (l .joint-there) (r .0) (r .1) (r .2) in
+                          (r .0, r .1, r .2, r .3, every-place Ss ms (U .count) outside (λ s m i. T (stage j s m i) → T (stage k s m i)) in-k (r .1) (w .0) (p c .turn) there (w .1) (l .turn-there) (r .4)),
+                    ),
+                  ),
+                ))
                 (stage-open j (p c .joint) (p c .owed) (p c .turn) t);
           }
         where

@@ -1,10 +1,8 @@
 -- `words::write_word` meets its contract: two stores, one behind the other.
-use mathlib.Core.List.{[], _∷_}
 use Prim.Native.Nat.{_/_, _%_}
-use native.Mathlib.Numerals.{add-one}
 use native.Mathlib.Omega.{arith}
 use borrow.Author.Needs.{needs}
-use Rattle.layout.proofs.Put.{put-sets}
+use Rattle.layout.proofs.Put.{put-pair}
 use Rattle.layout.proofs.words.write_word.Statement.{statement}
 use Rattle.layout.proofs.words.write_word.Tie as tie
 
@@ -27,7 +25,7 @@ same-length : tie.Need-same-length
 same-length c = search needs
 
 returns : tie.Need-returns
-returns c = rw add-one (put-sets (c .args .v % 256 ∷ c .args .v / 256 ∷ []) (c .args .s .now) (c .args .at) (omega arith))
+returns c = put-pair (c .args .s .now) (c .args .at) (c .args .v % 256) (c .args .v / 256) (omega arith)
 
 pub write-word-spec : {M : Type 1} → statement M
 write-word-spec =

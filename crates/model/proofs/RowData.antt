@@ -1,0 +1,163 @@
+-- The designs, converters and refutations of 01's "Rows". Label words stand in the states and proposition numbers in the formulas, so that a renumbering
+-- of labels changes the numbers here and nothing else.
+use mathlib.Core.List.{List, [], _∷_, _++_}
+use Prim.Native.Nat.{ℕ, _+_}
+use lib.IntN.{pos}
+use Rattle.model.specs.Events.{Event, tick, dual}
+use Rattle.model.specs.Sides.{Move, State, Side}
+use Rattle.model.specs.Converters.{Edge, Node, Converter}
+use Rattle.model.specs.Formulas.{Form, truth, prop, nprop, conj, disj, ax, au, ag}
+use Rattle.model.specs.Designs.{Design}
+use Rattle.model.proofs.Refuted.{Choice, Refutation, clash, waits}
+
+-- ---- as 01 writes them
+abbrev plus : ℕ → Event
+plus n = pos n
+
+abbrev minus : ℕ → Event
+minus n = dual (pos n)
+
+-- the event to the target
+abbrev on : Event → ℕ → Move
+on e t = record { event = e; target = t }
+
+-- a state with this label word
+abbrev labelling : ℕ → List Move → State
+labelling w ms = record { label = w; moves = ms }
+
+-- (event for side 1, event for side 2) to the next record
+abbrev pair : Event → Event → ℕ → Edge
+pair e f c = record { events = e ∷ f ∷ []; next = c }
+
+-- the record of (state of side 1, state of side 2)
+abbrev at : ℕ → ℕ → List Edge → Node
+at s t es = record { names = s ∷ t ∷ []; edges = es }
+
+-- at this pair of states the sides show these events
+abbrev shown-at : ℕ → ℕ → Event → Event → Choice
+shown-at s t e f = record { at = s ∷ t ∷ []; show = e ∷ f ∷ [] }
+
+abbrev design : List Side → List Form → List ℕ → Design
+design Ss fs rs = record { sides = Ss; forms = fs; rules = rs }
+
+-- ---- the handshake pair H: s0 and s1 beside t0 and t1 (000, section 3)
+abbrev pub handshake : List Side
+handshake =
+    (labelling 1 (on tick 0 ∷ on (minus 1) 1 ∷ []) ∷ labelling 2 (on tick 1 ∷ on (minus 2) 0 ∷ []) ∷ [])
+    ∷ (labelling 4 (on tick 0 ∷ on (plus 1) 1 ∷ []) ∷ labelling 8 (on (plus 2) 0 ∷ []) ∷ [])
+    ∷ []
+
+-- its propositions by the paper's names: Idle₁ of s0, ROut of s1, Idle₂ of t0, RIn of t1
+abbrev idle₁ : ℕ
+idle₁ = 0
+
+abbrev r-out : ℕ
+r-out = 1
+
+abbrev idle₂ : ℕ
+idle₂ = 2
+
+abbrev r-in : ℕ
+r-in = 3
+
+-- records 1 and 2 of the converter F (000, Figure 5)
+abbrev F₁ : Node
+F₁ = at 1 0 (pair (plus 2) (minus 1) 2 ∷ pair tick tick 1 ∷ [])
+
+abbrev F₂ : Node
+F₂ = at 0 1 (pair (plus 1) (minus 2) 1 ∷ pair tick (minus 2) 0 ∷ [])
+
+abbrev pub F : Converter
+F = at 0 0 (pair (plus 1) tick 1 ∷ pair tick tick 0 ∷ []) ∷ F₁ ∷ F₂ ∷ []
+
+-- F without (0,0) in record 0
+abbrev pub F-deaf : Converter
+F-deaf = at 0 0 (pair (plus 1) tick 1 ∷ []) ∷ F₁ ∷ F₂ ∷ []
+
+-- F whole, with (0,-1) to a fourth record as a third transition of record 0; the fourth record is as the third
+abbrev pub F-third : Converter
+F-third = at 0 0 (pair (plus 1) tick 1 ∷ pair tick tick 0 ∷ pair tick (minus 1) 3 ∷ []) ∷ F₁ ∷ F₂ ∷ F₂ ∷ []
+
+-- AG(p ∧ q ⇒ AX(x ∨ y)) from number k on: the rule is number k + 8
+abbrev guarded : ℕ → ℕ → ℕ → Form → Form → List Form
+guarded k p q x y = nprop p ∷ nprop q ∷ disj k (k + 1) ∷ x ∷ y ∷ disj (k + 3) (k + 4) ∷ ax (k + 5) ∷ disj (k + 2) (k + 6) ∷ ag (k + 7) ∷ []
+
+-- the paper's four rules, with the last word of the fourth left open
+abbrev four : Form → List Form
+four y =
+    guarded 0 idle₁ idle₂ (prop r-out) (nprop r-in)
+    ++ guarded 9 r-in r-out (prop idle₁) (nprop idle₂)
+    ++ guarded 18 r-out idle₂ (prop r-in) (nprop idle₁)
+    ++ guarded 27 idle₁ r-in (nprop r-out) y
+
+-- the numbers of the four rules
+abbrev four-rules : List ℕ
+four-rules = 8 ∷ 17 ∷ 26 ∷ 35 ∷ []
+
+-- H without rules
+abbrev pub H : Design
+H = design handshake [] []
+
+-- H with the four rules as printed, the fourth ending AX(¬1 ∨ ¬2)
+abbrev pub H-printed : Design
+H-printed = design handshake (four (nprop idle₂)) four-rules
+
+-- and with the fourth ending AX(¬1 ∨ 2), as its words say
+abbrev pub H-mended : Design
+H-mended = design handshake (four (prop idle₂)) four-rules
+
+-- H with A(true U 1)
+abbrev pub H-until : Design
+H-until = design handshake (truth ∷ prop r-out ∷ au 0 1 ∷ []) (2 ∷ [])
+
+-- s0 sends 1. If t0 moves with it, s1 waits, against the second rule. If t0 stays, s1 sends 2; by the third rule t0 moves then, and s0 sends 1 again,
+-- against the fourth.
+abbrev pub printed-clash : Refutation
+printed-clash = clash 3 (shown-at 0 0 (minus 1) tick ∷ shown-at 1 1 tick tick ∷ shown-at 1 0 (minus 2) tick ∷ shown-at 0 1 (minus 1) tick ∷ [])
+
+-- s0 waits for ever
+abbrev pub until-waits : Refutation
+until-waits = waits 2 (shown-at 0 0 tick tick ∷ shown-at 0 1 tick tick ∷ [])
+
+-- ---- one ticking state
+abbrev ticking : Side
+ticking = labelling 0 (on tick 0 ∷ []) ∷ []
+
+-- ---- two states ticking in turn, with labels 0 and 1, beside it; AG(A(true U 0) ∧ A(true U 1))
+abbrev pub turns : Design
+turns =
+    design ((labelling 1 (on tick 1 ∷ []) ∷ labelling 2 (on tick 0 ∷ []) ∷ []) ∷ ticking ∷ []) (truth ∷ prop 0 ∷ prop 1 ∷ au 0 1 ∷ au 0 2 ∷ conj 3 4 ∷ ag 5 ∷ []) (6 ∷ [])
+
+abbrev pub turns-converter : Converter
+turns-converter = at 0 0 (pair tick tick 1 ∷ []) ∷ at 1 0 (pair tick tick 0 ∷ []) ∷ []
+
+-- ---- one ticking state beside h0, h1 and h2
+abbrev fork : List Side
+fork = ticking ∷ (labelling 0 (on (plus 1) 1 ∷ on (plus 2) 2 ∷ []) ∷ labelling 1 (on tick 1 ∷ []) ∷ labelling 2 (on tick 2 ∷ []) ∷ []) ∷ []
+
+-- AX of the label of h1 and AX of the label of h2, numbers 2 and 3
+abbrev nexts : List Form
+nexts = prop 0 ∷ prop 1 ∷ ax 0 ∷ ax 1 ∷ []
+
+-- (AX 0) or (AX 1)
+abbrev pub fork-either : Design
+fork-either = design fork (nexts ++ (disj 2 3 ∷ [])) (4 ∷ [])
+
+-- AX 0 and AX 1 both, as two rules and as one
+abbrev pub fork-two : Design
+fork-two = design fork nexts (2 ∷ 3 ∷ [])
+
+abbrev pub fork-both : Design
+fork-both = design fork (nexts ++ (conj 2 3 ∷ [])) (4 ∷ [])
+
+-- the converter that enables the first input alone
+abbrev pub fork-first : Converter
+fork-first = at 0 0 (pair tick (minus 1) 1 ∷ []) ∷ at 0 1 (pair tick tick 1 ∷ []) ∷ []
+
+-- and the one that enables both
+abbrev pub fork-open : Converter
+fork-open = at 0 0 (pair tick (minus 1) 1 ∷ pair tick (minus 2) 2 ∷ []) ∷ at 0 1 (pair tick tick 1 ∷ []) ∷ at 0 2 (pair tick tick 2 ∷ []) ∷ []
+
+-- after one tick h1 lacks one label, h2 the other
+abbrev pub fork-clash : Refutation
+fork-clash = clash 1 (shown-at 0 0 tick tick ∷ [])
