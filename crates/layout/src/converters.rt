@@ -25,7 +25,7 @@ use crate::records::Transition;
 use crate::sizes::COUNT_AT;
 use crate::sizes::GAP_AT;
 use crate::sizes::MOST_RECORDS;
-use crate::sizes::MOST_STATES;
+use crate::sizes::STATES_AT_MOST;
 use crate::sizes::PLACE_COUNT;
 use crate::sizes::PLACES_AT;
 use crate::sizes::RECORD_BYTES;
@@ -94,7 +94,7 @@ fn names_right(names: [u8; 2]) -> bool
 {
     let mut i = 0;
     while i < SIDE_COUNT {
-        if MOST_STATES <= names[i] {
+        if STATES_AT_MOST <= names[i] {
             return false;
         }
         i += 1;
