@@ -105,3 +105,22 @@ module _ {A : Type 0} (f : ℕ → A) where
 pub as-table : {A : Type 0} (d : A) (n : ℕ) (l : List A) → length l ≡ n → l ≡ table n (λ k. getD l k d)
 as-table d n l e =
     ext-getD d l (table n (λ k. getD l k d)) (e ∙ sym (length-table (λ k. getD l k d) n)) (λ k h. sym (entry (λ j. getD l j d) d n k (omega arith)))
+
+-- ---- conjunctions
+pub and-true : (a b : Bool) → a ≡ true → b ≡ true → (a && b) ≡ true
+and-true a b p q = ap (λ x. x && b) p ∙ q
+
+pub and-false-right : (a b : Bool) → b ≡ false → (a && b) ≡ false
+and-false-right true b p = p
+and-false-right false b p = refl
+
+pub and-left : (a b : Bool) → (a && b) ≡ true → a ≡ true
+and-left true b p = refl
+and-left false b p = p
+
+pub and-right : (a b : Bool) → (a && b) ≡ true → b ≡ true
+and-right true b p = p
+and-right false b p = absurd (subst T (sym p) tt)
+
+pub every-at : (p : ℕ → Bool) (n : ℕ) → every n p ≡ true → (k : ℕ) → k < n → p k ≡ true
+every-at p n e k h = T-true (p k) (every-each p n (true-T (every n p) e) k h)
