@@ -1,6 +1,7 @@
 -- Lemmas that several functions' proofs cite.
 pub mod CellLaws
 pub mod NextRecords
+pub mod ReadyFacts
 pub mod Greatest
 pub mod SweepLaws
 pub mod UntilRanks

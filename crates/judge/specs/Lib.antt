@@ -4,3 +4,4 @@ pub mod Graph
 pub mod Sweeps
 pub mod Until
 pub mod Always
+pub mod Labelling

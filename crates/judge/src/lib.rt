@@ -2,5 +2,6 @@
 mod always;
 mod cells;
 mod graph;
+mod labels;
 mod sweeps;
 mod until;
