@@ -1,0 +1,23 @@
+-- Lemmas that several functions' proofs cite.
+pub mod Accepted
+pub mod AnyOf
+pub mod ConverterBytes
+pub mod DesignBytes
+pub mod FirstFailing
+pub mod FormulaTests
+pub mod JointLaws
+pub mod JointMoves
+pub mod KindTests
+pub mod Made
+pub mod Nodes
+pub mod Parts
+pub mod Passing
+pub mod Pieces
+pub mod Put
+pub mod RecordBytes
+pub mod ShowDigits
+pub mod SignedBytes
+pub mod StateMoves
+pub mod StateTests
+pub mod Tables
+pub mod WellFormed

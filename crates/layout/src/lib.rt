@@ -1,0 +1,11 @@
+// Bytes: designs, converters and blocks, with every refusal in its order. Offsets stand here and nowhere above.
+pub mod converters;
+pub mod designs;
+pub mod events;
+pub mod formulas;
+pub mod joint;
+pub mod ranges;
+pub mod records;
+pub mod sizes;
+pub mod states;
+pub mod words;
