@@ -8,5 +8,7 @@ pub mod Parts
 pub mod Pieces
 pub mod Put
 pub mod RecordBytes
+pub mod Sealed
 pub mod SignedBytes
 pub mod Tables
+pub mod WrittenFile
