@@ -1,5 +1,6 @@
 -- Lemmas that several functions' proofs cite.
 pub mod Accepted
+pub mod Outcomes
 pub mod ConverterBytes
 pub mod FirstFailing
 pub mod Made

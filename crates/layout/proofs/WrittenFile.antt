@@ -1,17 +1,21 @@
 -- The file of a converter that isn't refused, block by block.
 use mathlib.Core.Path.{_≡_, refl, sym, ap, ap₂, _∙_}
 use mathlib.Core.List.{List, _∷_, _++_, flatten}
-use Prim.Native.Nat.{ℕ, _+_, _-_, _*_, _≤_, _<_, min}
+use Prim.Native.Nat.{ℕ, zero, suc, _+_, _-_, _*_, _≤_, _<_, min}
+use native.Mathlib.Numerals.{add-one}
 use native.Mathlib.Decide.{decLt}
 use native.Mathlib.Omega.{arith}
-use lib.ListN.{length, take, drop, replicate, length-drop, length-take}
+use lib.ListN.{length, take, drop, replicate, length-drop, length-append}
 use lib.Seq.{take-all}
 use Rattle.layout.specs.Sizes.{record-bytes, block-records, block-record-bytes, block-bytes}
+use Rattle.layout.specs.Tables.{table, table-from}
 use Rattle.layout.specs.Bytes.{part, check, word-bytes, put}
 use Rattle.layout.specs.Blocks.{sealed}
 use Rattle.layout.specs.Converters.{records}
 use Rattle.layout.specs.Files.{converter-kind, blocks-for, written-block, written}
 use Rattle.layout.proofs.Parts.{length-part}
+use Rattle.layout.proofs.Put.{put-behind}
+use Rattle.layout.proofs.Pieces.{pieces-more}
 use Rattle.layout.proofs.Sealed.{length-sealed, put-sealed}
 use Rattle.layout.proofs.Accepted.{Accepted}
 
@@ -65,3 +69,28 @@ module _ (cs : List ℕ) (a : Accepted cs) (k : ℕ) (h : k < blocks-for (record
       ∙ ap (λ l. put l (at + 510) (word-bytes (check (part l at 510)))) e
       ∙ put-sealed converter-kind held (block-records * k) rs (omega (arith, length-block-part)) bs at room
       ∙ ap (λ r. put bs at (sealed converter-kind held (block-records * k) r)) (sym block-part)
+
+-- ---- the first k blocks
+module _ (cs : List ℕ) where
+  abbrev pub first-blocks : ℕ → List ℕ
+  first-blocks k = flatten (table k (written-block cs))
+
+  module _ (a : Accepted cs) where
+    pub length-first-blocks : (k : ℕ) → k ≤ blocks-for (records cs) → length (first-blocks k) ≡ block-bytes * k
+    unfolding table table-from flatten
+    length-first-blocks zero h = refl
+    length-first-blocks (suc k) h =
+        ap (λ n. length (first-blocks n)) (sym (add-one k))
+        ∙ ap length (pieces-more (written-block cs) k)
+        ∙ length-append (first-blocks k) (written-block cs k)
+        ∙ ap₂ _+_ (length-first-blocks k (omega arith)) (length-written-block cs a k (omega arith))
+        ∙ omega arith
+
+    -- one more, put behind them
+    pub put-next-block : (bs : List ℕ) (k : ℕ) → k < blocks-for (records cs) → block-bytes * k + block-bytes ≤ length bs
+        → put (put bs 0 (first-blocks k)) (block-bytes * k) (written-block cs k) ≡ put bs 0 (first-blocks (k + 1))
+    put-next-block bs k h room =
+        let z : block-bytes * k ≡ 0 + block-bytes * k = omega arith in
+        ap (λ i. put (put bs 0 (first-blocks k)) i (written-block cs k)) z
+        ∙ put-behind (first-blocks k) (written-block cs k) bs 0 (block-bytes * k) (length-first-blocks k (omega arith)) (omega (arith, length-written-block cs a k h))
+        ∙ ap (put bs 0) (sym (pieces-more (written-block cs) k))

@@ -91,3 +91,29 @@ fn write_block(converter: &[u8], k: usize, blocks: &mut [u8])
     ranges::fill(blocks, behind + used, sizes::CHECK_IN_BLOCK - sizes::RECORDS_IN_BLOCK - used, 0);
     seal(blocks, at);
 }
+
+// All blocks of the file of a converter.
+fn write_blocks(converter: &[u8], blocks: &mut [u8])
+    requires { ⌜ write-refusal (now converter) (length (now blocks)) ≡ 0 ⌝ }
+    ensures { λ _. ⌜ now (blocks .exit) ≡ put (now (blocks .entry)) 0 (written (now (converter .entry))) ⌝ }
+{
+    let n = blocks_for(converters::count(converter));
+    let mut k = 0;
+    // The first k blocks are written.
+    while k < n {
+        write_block(converter, k, blocks);
+        k += 1;
+    }
+}
+
+// A converter to blocks; the answer is how many they are.
+pub fn write(converter: &[u8], blocks: &mut [u8]) -> Written
+    ensures { λ r. ⌜ Writes (now (converter .entry)) (now (blocks .entry)) (now (blocks .exit)) r ⌝ }
+{
+    let refusal = write_refusal(converter, blocks.len());
+    if refusal != 0 {
+        return Written::Refused(refusal);
+    }
+    write_blocks(converter, blocks);
+    Written::Blocks(blocks_for(converters::count(converter)))
+}
