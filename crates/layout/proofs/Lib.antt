@@ -1,7 +1,10 @@
 -- Lemmas that several functions' proofs cite.
 pub mod Accepted
 pub mod Outcomes
+pub mod BlockTests
 pub mod ConverterBytes
+pub mod Earlier
+pub mod FileSizes
 pub mod FirstFailing
 pub mod Made
 pub mod Nodes

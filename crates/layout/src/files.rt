@@ -11,7 +11,7 @@ ghost use Rattle.layout.specs.Bytes.{part, check, word-bytes, put};
 ghost use Rattle.layout.specs.Converters.{records};
 ghost use Rattle.layout.specs.Files.{blocks, file-block, file-count, blocks-for, written-block, written};
 ghost use Rattle.layout.specs.Refusals.{
-  first-failing, block-tests, earlier, converter-refusal, write-refusal, file-size-right, file-tests, read-refusal
+  first-failing, check-right, header-right, count-right, unused-right, block-tests, earlier, converter-refusal, write-refusal, file-size-right, file-tests, read-refusal
 };
 ghost use Rattle.layout.specs.Answers.{Writes, Reads};
 use crate::answers::Read;
@@ -116,4 +116,125 @@ pub fn write(converter: &[u8], blocks: &mut [u8]) -> Written
     }
     write_blocks(converter, blocks);
     Written::Blocks(blocks_for(converters::count(converter)))
+}
+
+// ---- the block reader
+
+// How many blocks there are.
+pub fn block_count(s: &[u8]) -> usize
+    ensures { λ r. ⌜ r ≡ blocks (now (s .entry)) ⌝ }
+{
+    s.len() / sizes::BLOCK_BYTES
+}
+
+// Whether there are 1 to 4,682 whole blocks (1).
+fn file_size_right(s: &[u8]) -> bool
+    ensures { λ r. ⌜ r ≡ file-size-right (now (s .entry)) ⌝ }
+{
+    if s.len() == 0 {
+        return false;
+    }
+    if s.len() % sizes::BLOCK_BYTES != 0 {
+        return false;
+    }
+    block_count(s) <= sizes::MOST_BLOCKS
+}
+
+// ---- tests of block k of n
+
+// Its check (2).
+fn check_right(s: &[u8], n: usize, k: usize) -> bool
+    requires { ⌜ (k < n) × (block-bytes * n ≤ length (now s)) ⌝ }
+    ensures { λ r. ⌜ r ≡ check-right (now (s .entry)) (file-block n k) ⌝ }
+{
+    let at = sizes::BLOCK_BYTES * k;
+    words::read_word(s, at + sizes::CHECK_IN_BLOCK) == ranges::check_of(s, at)
+}
+
+// Its kind and first record (3).
+fn header_right(s: &[u8], n: usize, k: usize) -> bool
+    requires { ⌜ (k < n) × (block-bytes * n ≤ length (now s)) ⌝ }
+    ensures { λ r. ⌜ r ≡ header-right (now (s .entry)) (file-block n k) ⌝ }
+{
+    let at = sizes::BLOCK_BYTES * k;
+    if s[at] != sizes::CONVERTER_KIND {
+        return false;
+    }
+    words::read_word(s, at + sizes::FIRST_IN_BLOCK) as usize == sizes::BLOCK_RECORDS * k
+}
+
+// Its record count (4): 14, and 1 to 14 in the last.
+fn count_right(s: &[u8], n: usize, k: usize) -> bool
+    requires { ⌜ (k < n) × (block-bytes * n ≤ length (now s)) ⌝ }
+    ensures { λ r. ⌜ r ≡ count-right (now (s .entry)) (file-block n k) ⌝ }
+{
+    let count = s[sizes::BLOCK_BYTES * k + sizes::COUNT_IN_BLOCK] as usize;
+    if k + 1 == n {
+        if count == 0 {
+            return false;
+        }
+        return count <= sizes::BLOCK_RECORDS;
+    }
+    count == sizes::BLOCK_RECORDS
+}
+
+// The bytes behind its records (8).
+fn unused_right(s: &[u8], n: usize, k: usize) -> bool
+    requires { ⌜ (k < n) × (block-bytes * n ≤ length (now s)) × (count-right (now s) (file-block n k) ≡ true) ⌝ }
+    ensures { λ r. ⌜ r ≡ unused-right (now (s .entry)) (file-block n k) ⌝ }
+{
+    let at = sizes::BLOCK_BYTES * k;
+    let used = sizes::RECORD_BYTES * (s[at + sizes::COUNT_IN_BLOCK] as usize);
+    ranges::is_zero(
+        s,
+        at + sizes::RECORDS_IN_BLOCK + used,
+        sizes::CHECK_IN_BLOCK - sizes::RECORDS_IN_BLOCK - used,
+    )
+}
+
+// The first of 2, 3, 4 and 8 that it fails, and 0 where it passes.
+fn block_refusal(s: &[u8], n: usize, k: usize) -> u8
+    requires { ⌜ (k < n) × (block-bytes * n ≤ length (now s)) ⌝ }
+    ensures { λ r. ⌜ r ≡ first-failing (block-tests (now (s .entry)) (file-block n k)) ⌝ }
+{
+    if !check_right(s, n, k) {
+        return 2;
+    }
+    if !header_right(s, n, k) {
+        return 3;
+    }
+    if !count_right(s, n, k) {
+        return 4;
+    }
+    if !unused_right(s, n, k) {
+        return 8;
+    }
+    0
+}
+
+// ---- all blocks
+
+// Of two refusals the one that comes first, where 0 is none.
+fn earlier(a: u8, b: u8) -> u8
+    ensures { λ r. ⌜ r ≡ earlier a b ⌝ }
+{
+    if a == 0 {
+        return b;
+    }
+    if b == 0 {
+        return a;
+    }
+    if a < b {
+        return a;
+    }
+    b
+}
+
+// How many records the file has, whose earlier blocks are taken to be full.
+pub fn record_count(s: &[u8]) -> usize
+    requires { ⌜ file-size-right (now s) ≡ true ⌝ }
+    ensures { λ r. ⌜ r ≡ file-count (now (s .entry)) ⌝ }
+{
+    let last = block_count(s) - 1;
+    sizes::BLOCK_RECORDS * last + s[sizes::BLOCK_BYTES * last + sizes::COUNT_IN_BLOCK] as usize
 }
