@@ -1,9 +1,11 @@
 -- Lemmas that several functions' proofs cite.
 pub mod Accepted
 pub mod Outcomes
+pub mod Agree
 pub mod BlockTests
 pub mod ConverterBytes
 pub mod Earlier
+pub mod FileRecords
 pub mod FileSizes
 pub mod FirstFailing
 pub mod Made

@@ -1,17 +1,18 @@
 // Converter files: blocks of kind 5, 14 records each, the last 1 to 14. The writer and the block reader.
 ghost use mathlib.Core.Path.{_≡_};
 ghost use mathlib.Core.List.{[], _∷_, _++_};
-ghost use mathlib.Core.Bool.{true};
-ghost use Prim.Native.Nat.{_+_, _-_, _*_, _<_, _≤_, min};
+ghost use mathlib.Core.Bool.{true, cond};
+ghost use Prim.Native.Nat.{_+_, _-_, _*_, _/_, _%_, _<_, _≤_, min};
+ghost use lib.Dec.{leb};
 ghost use lib.ListN.{length};
 ghost use Rattle.layout.specs.Sizes.{
-  block-bytes, check-in-block, records-in-block, block-records, most-records
+  record-bytes, block-bytes, check-in-block, records-in-block, block-records, most-records
 };
 ghost use Rattle.layout.specs.Bytes.{part, check, word-bytes, put};
 ghost use Rattle.layout.specs.Converters.{records};
-ghost use Rattle.layout.specs.Files.{blocks, file-block, file-count, blocks-for, written-block, written};
+ghost use Rattle.layout.specs.Files.{blocks, file-block, file-count, file-records, blocks-for, written-block, written};
 ghost use Rattle.layout.specs.Refusals.{
-  first-failing, check-right, header-right, count-right, unused-right, block-tests, earlier, converter-refusal, write-refusal, file-size-right, file-tests, read-refusal
+  first-failing, check-right, header-right, count-right, unused-right, block-tests, earlier, converter-refusal, write-refusal, records-right, file-size-right, file-tests, read-refusal
 };
 ghost use Rattle.layout.specs.Answers.{Writes, Reads};
 use crate::answers::Read;
@@ -237,4 +238,57 @@ pub fn record_count(s: &[u8]) -> usize
 {
     let last = block_count(s) - 1;
     sizes::BLOCK_RECORDS * last + s[sizes::BLOCK_BYTES * last + sizes::COUNT_IN_BLOCK] as usize
+}
+
+// 4 where that is over 65,536, and 0 otherwise.
+fn count_refusal(s: &[u8]) -> u8
+    requires { ⌜ file-size-right (now s) ≡ true ⌝ }
+    ensures { λ r. ⌜ r ≡ cond (leb (file-count (now (s .entry))) most-records) 0 4 ⌝ }
+{
+    if sizes::MOST_RECORDS < record_count(s) {
+        return 4;
+    }
+    0
+}
+
+// Where record j stands.
+fn record_place(j: usize) -> usize
+    requires { ⌜ j < most-records ⌝ }
+    ensures { λ r. ⌜ r ≡ block-bytes * (j / block-records) + records-in-block + record-bytes * (j % block-records) ⌝ }
+{
+    sizes::BLOCK_BYTES * (j / sizes::BLOCK_RECORDS)
+        + sizes::RECORDS_IN_BLOCK
+        + sizes::RECORD_BYTES * (j % sizes::BLOCK_RECORDS)
+}
+
+// Whether all records are right (11).
+fn file_records_right(s: &[u8]) -> bool
+    requires { ⌜ (file-size-right (now s) ≡ true) × (file-count (now s) ≤ most-records) × (file-count (now s) ≤ block-records * blocks (now s)) ⌝ }
+    ensures { λ r. ⌜ r ≡ records-right (file-records (now (s .entry))) ⌝ }
+{
+    let n = record_count(s);
+    let mut j = 0;
+    // The first j records are right.
+    while j < n {
+        if !converters::record_right(s, n, record_place(j)) {
+            return false;
+        }
+        j += 1;
+    }
+    true
+}
+
+// The records of the file, one after the other.
+fn read_records(s: &[u8], converter: &mut [u8])
+    requires { ⌜ (file-size-right (now s) ≡ true) × (file-count (now s) ≤ most-records) × (file-count (now s) ≤ block-records * blocks (now s))
+        × (record-bytes * file-count (now s) ≤ length (now converter)) ⌝ }
+    ensures { λ _. ⌜ now (converter .exit) ≡ put (now (converter .entry)) 0 (file-records (now (s .entry))) ⌝ }
+{
+    let n = record_count(s);
+    let mut j = 0;
+    // The first j records are read.
+    while j < n {
+        ranges::copy(s, record_place(j), converter, sizes::RECORD_BYTES * j, sizes::RECORD_BYTES);
+        j += 1;
+    }
 }
