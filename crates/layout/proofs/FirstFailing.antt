@@ -3,6 +3,7 @@ use mathlib.Core.Path.{_≡_, refl, sym, ap, _∙_}
 use mathlib.Core.Bool.{Bool, true, false, cond}
 use mathlib.Core.List.{List, [], _∷_, _++_}
 use Prim.Native.Nat.{_<_}
+use native.Mathlib.Decide.{ℕ-discrete}
 use native.Mathlib.Omega.{arith}
 use borrow.Author.Tests.{ltb-true}
 use lib.Dec.{ltb}
@@ -43,3 +44,7 @@ refused-later (t ∷ ts) us a e =
     let n : 0 < t .number = ltb-true 0 (t .number) (and-left (ltb 0 (t .number)) (all (λ t. ltb 0 (t .number)) ts) a) in
     let p = passed t ts (λ z. absurd (omega arith)) e in
     passes-on t (ts ++ us) (p .0) ∙ refused-later ts us (and-right (ltb 0 (t .number)) (all (λ t. ltb 0 (t .number)) ts) a) (p .1)
+
+-- where both lists refuse nothing, the first doesn't
+pub none-first : (ts us : List Test) → first-failing (ts ++ us) ≡ 0 → first-failing ts ≡ 0
+none-first ts us e = elim (ℕ-discrete (first-failing ts) 0) [ yes p ↦ p | no n ↦ absurd (n (sym (refused-first ts us n) ∙ e)) ]

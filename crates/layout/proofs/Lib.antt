@@ -1,12 +1,14 @@
 -- Lemmas that several functions' proofs cite.
 pub mod Accepted
 pub mod Outcomes
+pub mod AcceptedFiles
 pub mod Agree
 pub mod BlockTests
 pub mod ConverterBytes
 pub mod Earlier
 pub mod FileRecords
 pub mod FileSizes
+pub mod FileTests
 pub mod FirstFailing
 pub mod Made
 pub mod Nodes

@@ -292,3 +292,54 @@ fn read_records(s: &[u8], converter: &mut [u8])
         j += 1;
     }
 }
+
+// The first of 1 to 4, 8 and 11 that holds, and 0 where none does. Each block is tested once: the first refusal of the file is the earliest that
+// any of its blocks gives.
+pub fn file_refusal(s: &[u8]) -> u8
+    ensures { λ r. ⌜ r ≡ first-failing (file-tests (now (s .entry))) ⌝ }
+{
+    if !file_size_right(s) {
+        return 1;
+    }
+    let n = block_count(s);
+    let mut first = count_refusal(s);
+    let mut k = 0;
+    // first is the earliest refusal by the record count and the first k blocks.
+    while k < n {
+        first = earlier(first, block_refusal(s, n, k));
+        k += 1;
+    }
+    if first != 0 {
+        return first;
+    }
+    if !file_records_right(s) {
+        return 11;
+    }
+    0
+}
+
+// The same, then 12 with so much room lent for the records.
+pub fn read_refusal(s: &[u8], room: usize) -> u8
+    ensures { λ r. ⌜ r ≡ read-refusal (now (s .entry)) room ⌝ }
+{
+    let refusal = file_refusal(s);
+    if refusal != 0 {
+        return refusal;
+    }
+    if room < sizes::RECORD_BYTES * record_count(s) {
+        return 12;
+    }
+    0
+}
+
+// Blocks to a converter; the answer is how many records it has. Every test comes before the first byte is written.
+pub fn read(blocks: &[u8], converter: &mut [u8]) -> Read
+    ensures { λ r. ⌜ Reads (now (blocks .entry)) (now (converter .entry)) (now (converter .exit)) r ⌝ }
+{
+    let refusal = read_refusal(blocks, converter.len());
+    if refusal != 0 {
+        return Read::Refused(refusal);
+    }
+    read_records(blocks, converter);
+    Read::Records(record_count(blocks))
+}
