@@ -56,10 +56,11 @@ pub const BLOCK_RECORD_BYTES: usize = 504;
 
 pub const MOST_RECORDS: usize = 65536;
 
+// The blocks that so many records fill: 4,681 full ones and one of 2 records.
 pub const MOST_BLOCKS: usize = 4682;
 
-pub const SIDE_COUNT: usize = 2;
+// The kind of a block of converter records.
+pub const CONVERTER_KIND: u8 = 5;
 
-pub const PLACE_COUNT: usize = 8;
-
+// The states of a side, as a byte.
 pub const STATES_AT_MOST: u8 = 16;
