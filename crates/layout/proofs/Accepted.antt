@@ -8,13 +8,14 @@ use borrow.Author.Tests.{leb-true, eqb-true, le-leb, eq-eqb, eqb-false}
 use lib.Dec.{leb, eqb}
 use lib.ListN.{length}
 use Rattle.model.specs.Converters.{node, edge}
-use Rattle.layout.specs.Sizes.{side-count, place-count, record-bytes, most-records}
+use Rattle.layout.specs.Sizes.{side-count, place-count, record-bytes, block-bytes, most-records}
 use Rattle.layout.specs.Bytes.{all-zero}
 use Rattle.layout.specs.Records.{record-at, node-of, transition-at}
 use Rattle.layout.specs.Unused.{converter-record, unused}
 use Rattle.layout.specs.Converters.{records, converter}
 use Rattle.layout.specs.Tests.{node-right}
-use Rattle.layout.specs.Refusals.{first-failing, size-right, record-right, records-right, converter-refusal}
+use Rattle.layout.specs.Files.{blocks-for}
+use Rattle.layout.specs.Refusals.{room-for-blocks, write-refusal, first-failing, size-right, record-right, records-right, converter-refusal}
 use Rattle.layout.proofs.Tables.{and-true, and-left, and-right, every-true, every-at, length-table}
 use Rattle.layout.proofs.FirstFailing.{passed, passes-on}
 use Rattle.layout.proofs.ConverterBytes.{node-at, names-at, edge-read}
@@ -76,3 +77,17 @@ module _ (cs : List ℕ) where
   -- each record of a converter that isn't refused
   pub each-well-formed : converter-refusal cs ≡ 0 → (c : ℕ) → c < records cs → WellFormedNode (records cs) (node (converter cs) c)
   each-well-formed e c h = right-well-formed c h (accepted e .right c h)
+
+-- ---- the writer
+module _ (cs : List ℕ) (room : ℕ) where
+  pub write-accepted : write-refusal cs room ≡ 0 → (converter-refusal cs ≡ 0) × (block-bytes * blocks-for (records cs) ≤ room)
+  unfolding write-refusal converter-refusal first-failing
+  write-accepted e =
+      let p = passed record { number = 10; passes = size-right cs } (record { number = 11; passes = records-right cs } ∷ room-for-blocks cs room ∷ []) (eqb-false 10 0 refl) e in
+      let q = passed record { number = 11; passes = records-right cs } (room-for-blocks cs room ∷ []) (eqb-false 11 0 refl) (p .1) in
+      let r = passed (room-for-blocks cs room) [] (eqb-false 12 0 refl) (q .1) in
+      (
+        passes-on record { number = 10; passes = size-right cs } (record { number = 11; passes = records-right cs } ∷ []) (p .0)
+            ∙ passes-on record { number = 11; passes = records-right cs } [] (q .0),
+        leb-true (block-bytes * blocks-for (records cs)) room (r .0),
+      )

@@ -1,12 +1,34 @@
--- Lemmas that several functions' proofs cite.
+-- Read first: `WellFormed` (a design that passes tests 1 to 8 is well formed in the model's sense) and `Accepted` (what an accepted converter is). The rest is
+-- what proofs of functions cite.
 pub mod Accepted
+pub mod AnyOf
 pub mod ConverterBytes
+pub mod DesignBytes
+pub mod Outcomes
+pub mod AcceptedFiles
+pub mod Agree
+pub mod BlockTests
+pub mod Earlier
+pub mod FileRecords
+pub mod FileSizes
+pub mod FileTests
 pub mod FirstFailing
+pub mod FormulaTests
+pub mod JointLaws
+pub mod JointMoves
+pub mod KindTests
 pub mod Made
 pub mod Nodes
 pub mod Parts
+pub mod Passing
 pub mod Pieces
 pub mod Put
 pub mod RecordBytes
+pub mod ShowDigits
+pub mod Sealed
 pub mod SignedBytes
+pub mod StateMoves
+pub mod StateTests
 pub mod Tables
+pub mod WellFormed
+pub mod WrittenFile

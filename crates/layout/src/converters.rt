@@ -25,11 +25,11 @@ use crate::records::Transition;
 use crate::sizes::COUNT_AT;
 use crate::sizes::GAP_AT;
 use crate::sizes::MOST_RECORDS;
-use crate::sizes::MOST_STATES;
-use crate::sizes::PLACE_COUNT;
+use crate::sizes::STATES_AT_MOST;
+use crate::sizes::PLACES;
 use crate::sizes::PLACES_AT;
 use crate::sizes::RECORD_BYTES;
-use crate::sizes::SIDE_COUNT;
+use crate::sizes::SIDES;
 use crate::sizes::TRANSITION_BYTES;
 
 // How many records there are.
@@ -93,8 +93,8 @@ fn names_right(names: [u8; 2]) -> bool
     ensures { λ r. ⌜ r ≡ all (λ s. ltb s most-states) names ⌝ }
 {
     let mut i = 0;
-    while i < SIDE_COUNT {
-        if MOST_STATES <= names[i] {
+    while i < SIDES {
+        if STATES_AT_MOST <= names[i] {
             return false;
         }
         i += 1;
@@ -107,7 +107,7 @@ fn transition_right(t: Transition, n: usize) -> bool
     ensures { λ r. ⌜ r ≡ (all in-range (t .events) && ltb (t .next) n) ⌝ }
 {
     let mut i = 0;
-    while i < SIDE_COUNT {
+    while i < SIDES {
         if !events::in_range(t.events[i]) {
             return false;
         }
@@ -129,7 +129,7 @@ fn node_right(r: Record, n: usize) -> bool
     if count == 0 {
         return false;
     }
-    if PLACE_COUNT < count {
+    if PLACES < count {
         return false;
     }
     let mut made = Record::new(names);
