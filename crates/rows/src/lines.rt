@@ -1,0 +1,15 @@
+// Lines of output, and the rows that need no design.
+
+// A line: the words, and a number.
+pub fn line(words: &[u8], n: u64) {
+    io::write_all(1, words);
+    io::write_all(1, b": ");
+    io::print_decimal(1, n);
+    io::write_all(1, b"\n");
+}
+
+// Bytes added up, wrapping at 65,536.
+pub fn checks() {
+    let block = [255u8; 512];
+    line(b"check of 510 bytes of 255", layout::ranges::check_of(&block, 0) as u64);
+}

@@ -1,0 +1,25 @@
+// Rows of the tick.
+use crate::bytes;
+use crate::lines;
+
+// One tick of F from a record: the answer, and where the runner stands then.
+fn tick(words: &[u8], record: u16, first: i8, second: i8) {
+    let before = runner::Runner { record: record, first: 0, second: 0 };
+    let after = runner::step(&bytes::F, before, first, second);
+    let answer = after.answer;
+    match answer {
+        runner::Answer::Done => lines::line(words, 0),
+        runner::Answer::Refused(k) => lines::line(words, k as u64),
+    }
+    let then = after.runner;
+    lines::line(b"  then at record", then.record as u64);
+    lines::line(b"  delivered to side 1, as a byte", layout::events::to_byte(then.first) as u64);
+    lines::line(b"  delivered to side 2, as a byte", layout::events::to_byte(then.second) as u64);
+}
+
+pub fn rows() {
+    tick(b"F at record 1, shown -2 and 0", 1, -2, 0);
+    tick(b"F at record 0, shown -2 and 0", 0, -2, 0);
+    tick(b"F at record 3, shown 0 and 0", 3, 0, 0);
+    tick(b"F at record 0, shown 1 and 0", 0, 1, 0);
+}
