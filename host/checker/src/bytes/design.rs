@@ -1,0 +1,298 @@
+//! Designs: two sides, formulas and rules in four blocks.
+
+use std::collections::BTreeSet;
+
+use super::{
+    headed, in_range, seal, sealed, word, BLOCK_BYTES, CHECKED_BYTES, DESIGN_BYTES, FORMULA_BYTES,
+    HEADER_BYTES, MOST_STATES, PLACES, STATE_BYTES,
+};
+use crate::refusal::{self, demand};
+
+/// One transition of a side.
+#[derive(Clone, Copy, Debug, PartialEq, Eq, PartialOrd, Ord)]
+pub struct Transition {
+    /// 0 is the tick, above 0 is read, below 0 is sent.
+    pub event: i8,
+    /// The state it leads to.
+    pub target: u8,
+}
+
+/// One state of a side.
+#[derive(Clone, Debug, PartialEq, Eq)]
+pub struct State {
+    /// Bit k set means that proposition k holds.
+    pub label: u16,
+    /// The used transition places, in order.
+    pub transitions: Vec<Transition>,
+}
+
+/// The three kinds of states that a side may have.
+#[derive(Clone, Copy, Debug, PartialEq, Eq)]
+pub enum StateKind {
+    /// No sent event.
+    Input,
+    /// A single transition, sent.
+    OutputOnly,
+    /// Two transitions: one sent, one a tick back to itself.
+    Delayed,
+}
+
+impl State {
+    /// The kind of this state, which is state `own` of its side, or none of the three.
+    pub fn kind(&self, own: usize) -> Option<StateKind> {
+        let sent = self.transitions.iter().filter(|t| t.event < 0).count();
+        let waits = |t: &Transition| t.event == 0 && usize::from(t.target) == own;
+        match (sent, self.transitions.len()) {
+            (0, _) => Some(StateKind::Input),
+            (1, 1) => Some(StateKind::OutputOnly),
+            (1, 2) if self.transitions.iter().any(waits) => Some(StateKind::Delayed),
+            _ => None,
+        }
+    }
+
+    /// The target that this state has for an event.
+    pub fn target(&self, event: i8) -> Option<usize> {
+        self.transitions.iter().find(|t| t.event == event).map(|t| usize::from(t.target))
+    }
+}
+
+/// A formula. Operands other than propositions are numbers of lower formulas.
+#[derive(Clone, Copy, Debug, PartialEq, Eq)]
+pub enum Formula {
+    /// Kind 1.
+    True,
+    /// Kind 2.
+    False,
+    /// Kind 3, a proposition holds.
+    Proposition(u8),
+    /// Kind 4, a proposition doesn't hold.
+    NotProposition(u8),
+    /// Kind 5.
+    And(usize, usize),
+    /// Kind 6.
+    Or(usize, usize),
+    /// Kind 7, AX a.
+    Next(usize),
+    /// Kind 8, A(a U b).
+    Until(usize, usize),
+    /// Kind 9, AG a.
+    Always(usize),
+}
+
+/// A design: two sides, the formulas, and the numbers of those that are rules.
+#[derive(Clone, Debug, PartialEq, Eq)]
+pub struct Design {
+    /// The kernel's states, then the host's.
+    pub sides: [Vec<State>; 2],
+    /// The formulas by number.
+    pub formulas: Vec<Formula>,
+    /// The rules, each a formula number.
+    pub rules: Vec<u8>,
+}
+
+impl Design {
+    /// The formulas that the scope paper calls kept: kind 8, kind 9, the
+    /// operand of some kind 7, or a rule.
+    pub fn kept(&self) -> BTreeSet<usize> {
+        let mut kept: BTreeSet<usize> = self.rules.iter().map(|&r| usize::from(r)).collect();
+        for (number, formula) in self.formulas.iter().enumerate() {
+            match *formula {
+                Formula::Until(..) | Formula::Always(_) => kept.insert(number),
+                Formula::Next(operand) => kept.insert(operand),
+                _ => false,
+            };
+        }
+        kept
+    }
+
+    /// The numbers of the kind 8 formulas.
+    pub fn untils(&self) -> BTreeSet<usize> {
+        (0..self.formulas.len())
+            .filter(|&number| matches!(self.formulas[number], Formula::Until(..)))
+            .collect()
+    }
+
+    /// The propositions of a pair of states, as a label word.
+    pub fn label(&self, pair: [usize; 2]) -> u16 {
+        self.sides[0][pair[0]].label | self.sides[1][pair[1]].label
+    }
+
+    /// The design as four sealed blocks.
+    ///
+    /// Nothing is checked beyond what the places hold, so that designs which a
+    /// reader must refuse can be written too.
+    pub fn to_bytes(&self) -> Vec<u8> {
+        let mut bytes = Vec::with_capacity(DESIGN_BYTES);
+        for (kind, states) in (1..).zip(&self.sides) {
+            bytes.extend(state_block(kind, states));
+        }
+        bytes.extend(formula_block(&self.formulas));
+        bytes.extend(rule_block(&self.rules));
+        seal(&mut bytes);
+        bytes
+    }
+}
+
+/// The number of positions of a design.
+pub fn positions(design: &Design) -> u128 {
+    let states = design.sides.iter().map(|side| side.len() as u128).product::<u128>();
+    let untils = design.untils().len().max(1) as u128;
+    (states * untils) << design.kept().len()
+}
+
+/// Reads a design, or declines with 1 to 8.
+pub fn read_design(bytes: &[u8]) -> Result<Design, u8> {
+    demand(bytes.len() == DESIGN_BYTES, refusal::LENGTH)?;
+    let blocks: Vec<&[u8]> = bytes.chunks(BLOCK_BYTES).collect();
+    demand(blocks.iter().all(|block| sealed(block)), refusal::CHECK)?;
+    let headers = (1..).zip(&blocks).all(|(kind, block)| block[0] == kind && word(block, 2) == 0);
+    demand(headers, refusal::HEADER)?;
+    let limits = [1..=16, 1..=16, 0..=64, 0..=16];
+    let counts = limits.iter().zip(&blocks).all(|(limit, block)| limit.contains(&block[1]));
+    demand(counts, refusal::COUNT)?;
+
+    let read_side = |block| read_states(block).ok_or(refusal::TRANSITIONS);
+    let sides = [read_side(blocks[0])?, read_side(blocks[1])?];
+    let of_a_kind =
+        |side: &Vec<State>| side.iter().enumerate().all(|(own, s)| s.kind(own).is_some());
+    demand(sides.iter().all(of_a_kind), refusal::STATE_KIND)?;
+
+    let formulas = read_formulas(blocks[2]).ok_or(refusal::FORMULA)?;
+    let rules = blocks[3][HEADER_BYTES..][..usize::from(blocks[3][1])].to_vec();
+    let named = rules.iter().all(|&rule| usize::from(rule) < formulas.len());
+    demand(named, refusal::FORMULA)?;
+
+    let design = Design { sides, formulas, rules };
+    let spare = used_bytes(&design)
+        .iter()
+        .zip(&blocks)
+        .all(|(used, block)| (0..BLOCK_BYTES).all(|at| used.contains(&at) || block[at] == 0));
+    demand(spare, refusal::UNUSED)?;
+    Ok(design)
+}
+
+/// The states of a side block, unless one has a wrong count, event or target.
+fn read_states(block: &[u8]) -> Option<Vec<State>> {
+    let states = usize::from(block[1]);
+    let records = block[HEADER_BYTES..].chunks(STATE_BYTES).take(states);
+    records.map(|record| read_state(record, states)).collect()
+}
+
+/// One state of a side that has `states` states.
+fn read_state(record: &[u8], states: usize) -> Option<State> {
+    let count = usize::from(record[2]);
+    if !(1..=PLACES).contains(&count) {
+        return None;
+    }
+    let transitions: Vec<Transition> = record[4..]
+        .chunks(2)
+        .take(count)
+        .map(|place| Transition { event: place[0] as i8, target: place[1] })
+        .collect();
+    let events: BTreeSet<i8> = transitions.iter().map(|t| t.event).collect();
+    let right = events.len() == count
+        && events.iter().all(|&event| in_range(event))
+        && transitions.iter().all(|t| usize::from(t.target) < states);
+    right.then(|| State { label: word(record, 0), transitions })
+}
+
+/// The formulas of a formula block, unless one is wrong.
+fn read_formulas(block: &[u8]) -> Option<Vec<Formula>> {
+    let records = block[HEADER_BYTES..].chunks(FORMULA_BYTES).take(usize::from(block[1]));
+    records.enumerate().map(|(number, record)| read_formula(number, record)).collect()
+}
+
+/// Formula `number`, unless its kind is unknown or an operand is wrong.
+/// Absent operands aren't looked at here: they are unused bytes.
+fn read_formula(number: usize, record: &[u8]) -> Option<Formula> {
+    let proposition = |at: usize| (record[at] <= 15).then_some(record[at]);
+    let lower = |at: usize| Some(usize::from(record[at])).filter(|&operand| operand < number);
+    Some(match record[0] {
+        1 => Formula::True,
+        2 => Formula::False,
+        3 => Formula::Proposition(proposition(1)?),
+        4 => Formula::NotProposition(proposition(1)?),
+        5 => Formula::And(lower(1)?, lower(2)?),
+        6 => Formula::Or(lower(1)?, lower(2)?),
+        7 => Formula::Next(lower(1)?),
+        8 => Formula::Until(lower(1)?, lower(2)?),
+        9 => Formula::Always(lower(1)?),
+        _ => return None,
+    })
+}
+
+/// For each block, the places of the bytes that a design uses.
+fn used_bytes(design: &Design) -> [BTreeSet<usize>; 4] {
+    let frame = || (0..HEADER_BYTES).chain(CHECKED_BYTES..BLOCK_BYTES);
+    let of_side = |states: &[State]| {
+        let records = states.iter().enumerate().flat_map(|(number, state)| {
+            let at = HEADER_BYTES + STATE_BYTES * number;
+            (at..at + 3).chain(at + 4..at + 4 + 2 * state.transitions.len())
+        });
+        frame().chain(records).collect()
+    };
+    let formulas = design.formulas.iter().enumerate().flat_map(|(number, &formula)| {
+        let at = HEADER_BYTES + FORMULA_BYTES * number;
+        at..at + 1 + operands(formula)
+    });
+    [
+        of_side(&design.sides[0]),
+        of_side(&design.sides[1]),
+        frame().chain(formulas).collect(),
+        frame().chain(HEADER_BYTES..HEADER_BYTES + design.rules.len()).collect(),
+    ]
+}
+
+/// How many operands a formula has.
+fn operands(formula: Formula) -> usize {
+    match formula {
+        Formula::True | Formula::False => 0,
+        Formula::Proposition(_) | Formula::NotProposition(_) => 1,
+        Formula::Next(_) | Formula::Always(_) => 1,
+        Formula::And(..) | Formula::Or(..) | Formula::Until(..) => 2,
+    }
+}
+
+/// A side as a block, not yet sealed.
+fn state_block(kind: u8, states: &[State]) -> [u8; BLOCK_BYTES] {
+    assert!(states.len() <= MOST_STATES, "a side has at most 16 states");
+    let mut block = headed(kind, states.len(), 0);
+    for (record, state) in block[HEADER_BYTES..].chunks_mut(STATE_BYTES).zip(states) {
+        assert!(state.transitions.len() <= PLACES, "a state has eight transition places");
+        record[..2].copy_from_slice(&state.label.to_le_bytes());
+        record[2] = state.transitions.len() as u8;
+        for (place, transition) in record[4..].chunks_mut(2).zip(&state.transitions) {
+            place.copy_from_slice(&[transition.event as u8, transition.target]);
+        }
+    }
+    block
+}
+
+/// The formulas as a block, not yet sealed.
+fn formula_block(formulas: &[Formula]) -> [u8; BLOCK_BYTES] {
+    assert!(formulas.len() <= 64, "a design has at most 64 formulas");
+    let mut block = headed(3, formulas.len(), 0);
+    for (record, &formula) in block[HEADER_BYTES..].chunks_mut(FORMULA_BYTES).zip(formulas) {
+        let (kind, a, b) = match formula {
+            Formula::True => (1, 0, 0),
+            Formula::False => (2, 0, 0),
+            Formula::Proposition(a) => (3, a, 0),
+            Formula::NotProposition(a) => (4, a, 0),
+            Formula::And(a, b) => (5, a as u8, b as u8),
+            Formula::Or(a, b) => (6, a as u8, b as u8),
+            Formula::Next(a) => (7, a as u8, 0),
+            Formula::Until(a, b) => (8, a as u8, b as u8),
+            Formula::Always(a) => (9, a as u8, 0),
+        };
+        record[..3].copy_from_slice(&[kind, a, b]);
+    }
+    block
+}
+
+/// The rules as a block, not yet sealed.
+fn rule_block(rules: &[u8]) -> [u8; BLOCK_BYTES] {
+    assert!(rules.len() <= 16, "a design has at most 16 rules");
+    let mut block = headed(4, rules.len(), 0);
+    block[HEADER_BYTES..][..rules.len()].copy_from_slice(rules);
+    block
+}

@@ -1,0 +1,492 @@
+//! Seeded random designs, converters and converter files, sound and damaged.
+//!
+//! The same seed always gives the same things.
+
+use std::collections::BTreeSet;
+
+use crate::bytes::{
+    converter_bytes, seal, write_blocks, Design, Formula, Link, Record, State, StateKind,
+    Transition, BLOCK_BYTES, BLOCK_RECORDS, HEADER_BYTES, PLACES, RECORD_BYTES,
+};
+use crate::joined::{enabling, steps, Enabling, Pair, Step};
+use crate::tick::{tick, PlainSides, Runner};
+
+/// A xorshift generator.
+#[derive(Clone, Debug)]
+pub struct Random(u64);
+
+impl Random {
+    /// A generator from a seed.
+    pub fn new(seed: u64) -> Random {
+        // Spread the seed over all bits; the state must not be zero.
+        let spread = (seed ^ 0x9E37_79B9_7F4A_7C15).wrapping_mul(0xBF58_476D_1CE4_E5B9);
+        Random((spread ^ (spread >> 29)) | 1)
+    }
+
+    /// The next 64 bits.
+    pub fn bits(&mut self) -> u64 {
+        self.0 ^= self.0 << 13;
+        self.0 ^= self.0 >> 7;
+        self.0 ^= self.0 << 17;
+        self.0
+    }
+
+    /// A number below `end`.
+    pub fn below(&mut self, end: usize) -> usize {
+        ((self.bits() >> 16) % end as u64) as usize
+    }
+
+    /// A number from `from` to `to`, both included.
+    pub fn from_to(&mut self, from: usize, to: usize) -> usize {
+        from + self.below(to - from + 1)
+    }
+
+    /// A byte.
+    pub fn byte(&mut self) -> u8 {
+        self.below(256) as u8
+    }
+
+    /// True once in `times` on average.
+    pub fn once_in(&mut self, times: usize) -> bool {
+        self.below(times) == 0
+    }
+
+    /// One of some things.
+    pub fn pick<'a, T>(&mut self, things: &'a [T]) -> &'a T {
+        &things[self.below(things.len())]
+    }
+
+    /// Brings things into another order.
+    pub fn shuffle<T>(&mut self, things: &mut [T]) {
+        for end in (1..things.len()).rev() {
+            things.swap(end, self.below(end + 1));
+        }
+    }
+}
+
+/// How large a random design may be.
+#[derive(Clone, Copy, Debug)]
+pub struct Shape {
+    /// The most states of a side.
+    pub states: usize,
+    /// The most transitions of an input state.
+    pub transitions: usize,
+    /// Labels use propositions below this.
+    pub propositions: usize,
+    /// The most formulas.
+    pub formulas: usize,
+    /// The most rules.
+    pub rules: usize,
+}
+
+impl Shape {
+    /// Small enough to try every converter of three records.
+    pub const TINY: Shape =
+        Shape { states: 2, transitions: 2, propositions: 2, formulas: 7, rules: 2 };
+    /// A few states and formulas.
+    pub const SMALL: Shape =
+        Shape { states: 4, transitions: 3, propositions: 3, formulas: 12, rules: 3 };
+    /// As much as a design holds.
+    pub const FULL: Shape =
+        Shape { states: 16, transitions: 8, propositions: 16, formulas: 64, rules: 16 };
+}
+
+/// A well-formed design, mostly a small one.
+pub fn any_design(random: &mut Random) -> Design {
+    let shape = match random.below(10) {
+        0 => Shape::FULL,
+        1 => Shape { states: 16, ..Shape::SMALL },
+        2..=4 => Shape::TINY,
+        _ => Shape::SMALL,
+    };
+    design(random, &shape)
+}
+
+/// A well-formed design. Its formulas use each other freely, or each rule is
+/// a tree of its own; the latter are more often hard to keep and yet possible.
+pub fn design(random: &mut Random, shape: &Shape) -> Design {
+    let sides = [side(random, shape), side(random, shape)];
+    if random.once_in(2) {
+        let count = random.from_to(0, shape.formulas);
+        let formulas = formulas(random, shape, count);
+        let rules = rules(random, shape, count);
+        Design { sides, formulas, rules }
+    } else {
+        let (formulas, rules) = trees(random, shape);
+        Design { sides, formulas, rules }
+    }
+}
+
+/// A well-formed design with a rule at least.
+pub fn ruled_design(random: &mut Random, shape: &Shape) -> Design {
+    let mut made = design(random, shape);
+    while made.rules.is_empty() {
+        made = design(random, shape);
+    }
+    made
+}
+
+/// A side whose states are of every kind, or one that mostly reads and so
+/// leaves more to the converter.
+pub fn side(random: &mut Random, shape: &Shape) -> Vec<State> {
+    let states = random.from_to(1, shape.states).max(random.from_to(1, shape.states));
+    let reads = random.once_in(2);
+    (0..states).map(|own| state(random, shape, own, states, reads)).collect()
+}
+
+/// State `own` of a side that has `states` states.
+fn state(random: &mut Random, shape: &Shape, own: usize, states: usize, reads: bool) -> State {
+    let kinds = [StateKind::Input, StateKind::OutputOnly, StateKind::Delayed];
+    let kind = if reads && !random.once_in(4) { &StateKind::Input } else { random.pick(&kinds) };
+    let mut transitions = match kind {
+        StateKind::Input => inputs(random, shape, states),
+        StateKind::OutputOnly => vec![sending(random, states)],
+        StateKind::Delayed => {
+            vec![sending(random, states), Transition { event: 0, target: own as u8 }]
+        }
+    };
+    random.shuffle(&mut transitions);
+    State { label: label(random, shape), transitions }
+}
+
+/// A label word, mostly with few propositions.
+fn label(random: &mut Random, shape: &Shape) -> u16 {
+    let mut word = || (random.bits() >> 16) as u16 & (u16::MAX >> (16 - shape.propositions));
+    word() & word()
+}
+
+/// A transition that sends.
+fn sending(random: &mut Random, states: usize) -> Transition {
+    let event = -(signal(random) as i8);
+    Transition { event, target: random.below(states) as u8 }
+}
+
+/// The transitions of an input state.
+fn inputs(random: &mut Random, shape: &Shape, states: usize) -> Vec<Transition> {
+    let count = random.from_to(1, shape.transitions).max(random.from_to(1, shape.transitions));
+    let mut events = BTreeSet::new();
+    while events.len() < count {
+        let event = if random.once_in(3) { 0 } else { signal(random) };
+        events.insert(event as i8);
+    }
+    let input = |event| Transition { event, target: random.below(states) as u8 };
+    events.into_iter().map(input).collect()
+}
+
+/// The number of a signal: mostly small, at times any, at times the largest.
+fn signal(random: &mut Random) -> usize {
+    match random.below(10) {
+        0 => random.from_to(1, 63),
+        1 => 63,
+        _ => random.from_to(1, 4),
+    }
+}
+
+/// Some formulas, each of which may use the lower ones.
+pub fn formulas(random: &mut Random, shape: &Shape, count: usize) -> Vec<Formula> {
+    (0..count).map(|number| formula(random, shape, number)).collect()
+}
+
+/// Formula `number`.
+fn formula(random: &mut Random, shape: &Shape, number: usize) -> Formula {
+    let proposition = random.below(shape.propositions) as u8;
+    // Mostly the formulas right before, so that rules grow deep.
+    let mut operand = || {
+        if random.once_in(2) {
+            random.below(number)
+        } else {
+            random.from_to(number.saturating_sub(3), number - 1)
+        }
+    };
+    let operands = if number == 0 { [0, 0] } else { [operand(), operand()] };
+    let [a, b] = operands;
+    match random.below(if number == 0 { 7 } else { 20 }) {
+        0 => Formula::True,
+        1 if random.once_in(3) => Formula::False,
+        1..=4 => Formula::Proposition(proposition),
+        5..=6 => Formula::NotProposition(proposition),
+        7..=8 => Formula::And(a, b),
+        9..=12 => Formula::Or(a, b),
+        13..=14 => Formula::Next(a),
+        15..=17 => Formula::Until(a, b),
+        _ => Formula::Always(a),
+    }
+}
+
+/// Some rules, mostly late formulas.
+fn rules(random: &mut Random, shape: &Shape, formulas: usize) -> Vec<u8> {
+    if formulas == 0 {
+        return Vec::new();
+    }
+    let rule = |random: &mut Random| {
+        let from = if random.once_in(3) { 0 } else { formulas / 2 };
+        random.from_to(from, formulas - 1) as u8
+    };
+    (0..random.from_to(0, shape.rules)).map(|_| rule(random)).collect()
+}
+
+/// Some rules, each a tree of formulas of its own.
+pub fn trees(random: &mut Random, shape: &Shape) -> (Vec<Formula>, Vec<u8>) {
+    let (mut formulas, mut rules) = (Vec::new(), Vec::new());
+    for _ in 0..random.from_to(0, shape.rules) {
+        let mut grown = formulas.clone();
+        let depth = random.from_to(2, 5);
+        let root = tree(random, shape, &mut grown, depth);
+        if grown.len() <= shape.formulas {
+            formulas = grown;
+            rules.push(root as u8);
+        }
+    }
+    (formulas, rules)
+}
+
+/// Puts a tree of at most this depth after the formulas, and answers its root.
+fn tree(random: &mut Random, shape: &Shape, formulas: &mut Vec<Formula>, depth: usize) -> usize {
+    let mut below = |random: &mut Random| tree(random, shape, formulas, depth - 1);
+    let made = match random.below(if depth == 0 { 5 } else { 16 }) {
+        0 => Formula::True,
+        1..=2 => Formula::Proposition(random.below(shape.propositions) as u8),
+        3..=4 => Formula::NotProposition(random.below(shape.propositions) as u8),
+        5 => Formula::And(below(random), below(random)),
+        6..=8 => Formula::Or(below(random), below(random)),
+        9..=10 => Formula::Next(below(random)),
+        11..=13 => Formula::Until(below(random), below(random)),
+        _ => Formula::Always(below(random)),
+    };
+    formulas.push(made);
+    formulas.len() - 1
+}
+
+/// What was done to sound bytes.
+#[derive(Clone, Copy, Debug, PartialEq, Eq)]
+pub enum Damage {
+    /// The length is another.
+    Length,
+    /// One byte is another, and the checks are as they were.
+    Byte,
+    /// One byte or more are others, and the checks are right again.
+    Repaired,
+}
+
+/// Damages the bytes of a design or of a converter file.
+pub fn damage(random: &mut Random, bytes: &mut Vec<u8>) -> Damage {
+    match random.below(8) {
+        0 => {
+            change_length(random, bytes);
+            Damage::Length
+        }
+        1 => {
+            let at = random.below(bytes.len());
+            change_byte(random, bytes, at);
+            Damage::Byte
+        }
+        _ => {
+            for _ in 0..random.from_to(1, 2) {
+                let at = telling_byte(random, bytes);
+                change_byte(random, bytes, at);
+            }
+            seal(bytes);
+            Damage::Repaired
+        }
+    }
+}
+
+/// Gives some bytes another length.
+pub fn change_length(random: &mut Random, bytes: &mut Vec<u8>) {
+    let length = bytes.len();
+    match random.below(4) {
+        0 => bytes.truncate(length - 1),
+        1 => bytes.push(random.byte()),
+        2 => bytes.truncate(random.below(length)),
+        _ => bytes.resize(length + random.from_to(1, BLOCK_BYTES), 0),
+    }
+}
+
+/// Gives one byte another value, mostly a near or a small one.
+fn change_byte(random: &mut Random, bytes: &mut [u8], at: usize) {
+    let old = bytes[at];
+    while bytes[at] == old {
+        bytes[at] = match random.below(4) {
+            0 => old.wrapping_add(1),
+            1 => old.wrapping_sub(1),
+            2 => random.below(20) as u8,
+            _ => random.byte(),
+        };
+    }
+}
+
+/// The place of a byte, mostly in a header or among the records of a block.
+fn telling_byte(random: &mut Random, bytes: &[u8]) -> usize {
+    let start = BLOCK_BYTES * random.below(bytes.len() / BLOCK_BYTES);
+    let end = bytes[start..start + BLOCK_BYTES - 2].iter().rposition(|&byte| byte != 0);
+    match random.below(8) {
+        0 => start + random.below(HEADER_BYTES),
+        1 => start + random.below(BLOCK_BYTES - 2),
+        _ => start + random.below(end.unwrap_or(0) + 3).min(BLOCK_BYTES - 3),
+    }
+}
+
+/// Records that are right in themselves, whatever the sides are.
+pub fn loose_converter(random: &mut Random, records: usize) -> Vec<Record> {
+    (0..records).map(|_| loose_record(random, records)).collect()
+}
+
+/// One record that is right in itself, in a converter of `records` records.
+pub fn loose_record(random: &mut Random, records: usize) -> Record {
+    let count = random.from_to(1, PLACES);
+    let mut links: Vec<Link> = Vec::new();
+    while links.len() < count {
+        let events = [random.below(127) as i8 - 63, random.below(127) as i8 - 63];
+        if links.iter().all(|link| link.events != events) {
+            links.push(Link { events, next: random.below(records) as u16 });
+        }
+    }
+    Record { pair: [random.below(16) as u8, random.below(16) as u8], links }
+}
+
+/// A converter matched to the sides of a design, with at most `spare` records
+/// beyond those that its transitions need.
+pub fn matched_converter(random: &mut Random, design: &Design, spare: usize) -> Vec<Record> {
+    let mut named: Vec<Pair> = vec![[0, 0]];
+    let mut spare = spare;
+    let mut converter = Vec::new();
+    while converter.len() < named.len() {
+        let pair = named[converter.len()];
+        let mut links = Vec::new();
+        for step in enabled(random, design, pair) {
+            let fitting: Vec<usize> = (0..named.len()).filter(|&at| named[at] == step.to).collect();
+            let fresh = fitting.is_empty() || (spare > 0 && random.once_in(3));
+            let next = if fresh {
+                spare -= usize::from(!fitting.is_empty());
+                named.push(step.to);
+                named.len() - 1
+            } else {
+                *random.pick(&fitting)
+            };
+            links.push(Link { events: step.events.map(|event| -event), next: next as u16 });
+        }
+        random.shuffle(&mut links);
+        converter.push(Record { pair: pair.map(|state| state as u8), links });
+    }
+    converter
+}
+
+/// Transitions of a pair that a converter may enable together.
+fn enabled(random: &mut Random, design: &Design, pair: Pair) -> Vec<Step> {
+    let mut steps = steps(design, pair);
+    match enabling(design, pair) {
+        Enabling::All => steps,
+        Enabling::SendAndTick(side) => {
+            let (sending, waiting): (Vec<Step>, Vec<Step>) =
+                steps.into_iter().partition(|step| step.events[side] < 0);
+            vec![*random.pick(&sending), *random.pick(&waiting)]
+        }
+        Enabling::Some => {
+            random.shuffle(&mut steps);
+            let most = if random.once_in(2) { 1 } else { PLACES };
+            steps.truncate(random.from_to(1, most));
+            steps
+        }
+    }
+}
+
+/// A converter that is matched but for one small change, which may happen to
+/// leave it matched. It stays right in itself.
+pub fn nearly_matched_converter(random: &mut Random, design: &Design, spare: usize) -> Vec<Record> {
+    let mut converter = matched_converter(random, design, spare);
+    let records = converter.len();
+    let at = random.below(records);
+    let links = converter[at].links.len();
+    let link = random.below(links);
+    match random.below(6) {
+        0 if links > 1 => {
+            converter[at].links.remove(link);
+        }
+        1 if links < PLACES => {
+            let events = random.pick(&steps(design, converter[at].pair.map(usize::from))).events;
+            let events = events.map(|event| -event);
+            if converter[at].links.iter().all(|link| link.events != events) {
+                converter[at].links.push(Link { events, next: random.below(records) as u16 });
+            }
+        }
+        2 => converter[at].links[link].next = random.below(records) as u16,
+        3 => {
+            let mut events = converter[at].links[link].events;
+            let side = random.below(2);
+            events[side] = if random.once_in(2) { -events[side] } else { signal(random) as i8 };
+            if converter[at].links.iter().all(|link| link.events != events) {
+                converter[at].links[link].events = events;
+            }
+        }
+        4 => converter[at].pair[random.below(2)] = random.below(16) as u8,
+        _ => converter.swap(0, at),
+    }
+    converter
+}
+
+/// A damaged converter in memory: another length, or some bytes changed.
+pub fn damaged_converter(random: &mut Random, records: &[Record]) -> Vec<u8> {
+    let mut bytes = converter_bytes(records);
+    if random.once_in(6) {
+        change_length(random, &mut bytes);
+    } else {
+        let at = RECORD_BYTES * random.below(records.len()) + random.below(RECORD_BYTES);
+        change_byte(random, &mut bytes, at);
+    }
+    bytes
+}
+
+/// A converter in memory of any sort, mostly one that fits the design.
+pub fn any_converter(random: &mut Random, design: &Design) -> Vec<u8> {
+    let spare = random.below(6);
+    match random.below(8) {
+        0 => {
+            let records = random.from_to(1, 20);
+            converter_bytes(&loose_converter(random, records))
+        }
+        1..=2 => {
+            let records = matched_converter(random, design, spare);
+            damaged_converter(random, &records)
+        }
+        3..=4 => converter_bytes(&nearly_matched_converter(random, design, spare)),
+        _ => converter_bytes(&matched_converter(random, design, spare)),
+    }
+}
+
+/// The blocks of a converter that is right in itself.
+pub fn block_file(random: &mut Random, most_records: usize) -> Vec<u8> {
+    let records = random.from_to(1, most_records);
+    let converter = converter_bytes(&loose_converter(random, records));
+    let mut file = vec![0; BLOCK_BYTES * records.div_ceil(BLOCK_RECORDS)];
+    write_blocks(&converter, &mut file).expect("the converter is right in itself");
+    file
+}
+
+/// What the two sides show at each call of a run: mostly what their tables
+/// allow where they are then, at times anything at all.
+pub fn script(
+    random: &mut Random,
+    design: &Design,
+    converter: &[u8],
+    calls: usize,
+) -> Vec<[i8; 2]> {
+    let mut runner = Runner { record: 0, delivered: [0, 0] };
+    let mut sides = PlainSides::default();
+    let mut script = Vec::new();
+    for _ in 0..calls {
+        let mut shown = [0, 1].map(|side| {
+            let transitions = &design.sides[side][sides.states[side]].transitions;
+            random.pick(transitions).event.min(0)
+        });
+        if random.once_in(8) {
+            shown[random.below(2)] = random.byte() as i8;
+        }
+        script.push(shown);
+        if tick(converter, &mut runner, shown).is_ok()
+            && sides.deliver(design, runner.delivered).is_err()
+        {
+            sides = PlainSides::default();
+        }
+    }
+    script
+}

@@ -1,0 +1,214 @@
+//! The rows of the scope paper. Every expected value is written from the paper.
+
+mod samples;
+
+use checker::bytes::{check, converter_bytes, positions, read_design, Design, Formula, Record};
+use checker::judge::failing_rules;
+use checker::tick::Runner;
+use samples::{figure_five, handshake, judged_well, record, ruled_handshake, searched, state};
+
+#[test]
+fn handshake_without_rules() {
+    let design = handshake(vec![], vec![]);
+    assert_eq!(positions(&design), 4);
+    assert!(searched(&design).is_ok());
+}
+
+#[test]
+fn four_rules_as_printed() {
+    let design = ruled_handshake(true);
+    assert_eq!(design.kept().len(), 8);
+    assert_eq!(positions(&design), 1_024);
+    assert_eq!(searched(&design), Err(16));
+}
+
+#[test]
+fn figure_five_against_the_rules_as_printed() {
+    let design = ruled_handshake(true);
+    assert_eq!(judged_well(&design, &converter_bytes(&figure_five())), Err(15));
+    // The fourth fails, and no other.
+    assert_eq!(failing_rules(&design, &figure_five()), [3]);
+}
+
+#[test]
+fn four_rules_as_their_words_say() {
+    let design = ruled_handshake(false);
+    assert_eq!(judged_well(&design, &converter_bytes(&figure_five())), Ok(()));
+    assert!(searched(&design).is_ok());
+}
+
+#[test]
+fn waiting_for_ever() {
+    let formulas = vec![Formula::True, Formula::Proposition(1), Formula::Until(0, 1)];
+    let design = handshake(formulas, vec![2]);
+    assert_eq!(positions(&design), 8);
+    assert_eq!(searched(&design), Err(16));
+}
+
+#[test]
+fn figure_five_unmatched() {
+    for design in [handshake(vec![], vec![]), ruled_handshake(true), ruled_handshake(false)] {
+        let mut without = figure_five();
+        assert_eq!(without[0].links.remove(1).events, [0, 0]);
+        assert_eq!(judged_well(&design, &converter_bytes(&without)), Err(14));
+
+        // A fourth record does no harm as long as nothing leads there.
+        let mut fourth = figure_five();
+        fourth.push(record([0, 1], &[([1, -2], 1), ([0, -2], 0)]));
+        assert_ne!(judged_well(&design, &converter_bytes(&fourth)), Err(14));
+        fourth[0] = record([0, 0], &[([1, 0], 1), ([0, 0], 0), ([0, -1], 3)]);
+        assert_eq!(judged_well(&design, &converter_bytes(&fourth)), Err(14));
+    }
+}
+
+#[test]
+fn figure_five_ticking() {
+    let converter = converter_bytes(&figure_five());
+    let mut runner = Runner { record: 1, delivered: [5, 6] };
+    assert_eq!(checker::tick(&converter, &mut runner, [-2, 0]), Ok(()));
+    assert_eq!(runner, Runner { record: 2, delivered: [-2, 1] });
+
+    let start = Runner { record: 0, delivered: [5, 6] };
+    let mut runner = start;
+    assert_eq!(checker::tick(&converter, &mut runner, [-2, 0]), Err(17));
+    assert_eq!(runner, start);
+}
+
+#[test]
+fn two_states_ticking_in_turn() {
+    let turning = vec![state(&[0], &[(0, 1)]), state(&[1], &[(0, 0)])];
+    let formulas = vec![
+        Formula::True,
+        Formula::Proposition(0),
+        Formula::Proposition(1),
+        Formula::Until(0, 1),
+        Formula::Until(0, 2),
+        Formula::And(3, 4),
+        Formula::Always(5),
+    ];
+    let design = Design { sides: [turning, vec![state(&[], &[(0, 0)])]], formulas, rules: vec![6] };
+    assert_eq!(positions(&design), 32);
+    assert!(searched(&design).is_ok());
+}
+
+/// One ticking state beside h0, h1 and h2.
+fn two_inputs(formulas: Vec<Formula>, rules: Vec<u8>) -> Design {
+    let host = vec![state(&[], &[(1, 1), (2, 2)]), state(&[0], &[(0, 1)]), state(&[1], &[(0, 2)])];
+    Design { sides: [vec![state(&[], &[(0, 0)])], host], formulas, rules }
+}
+
+/// AX 0, then AX 1.
+fn next_zero_next_one() -> Vec<Formula> {
+    vec![Formula::Proposition(0), Formula::Proposition(1), Formula::Next(0), Formula::Next(1)]
+}
+
+/// A converter for the two inputs that enables some of them.
+fn enabling(inputs: &[([i8; 2], u16)]) -> Vec<Record> {
+    vec![record([0, 0], inputs), record([0, 1], &[([0, 0], 1)]), record([0, 2], &[([0, 0], 2)])]
+}
+
+#[test]
+fn one_of_two_inputs() {
+    let mut formulas = next_zero_next_one();
+    formulas.push(Formula::Or(2, 3));
+    let design = two_inputs(formulas, vec![4]);
+    assert_eq!(positions(&design), 24);
+    assert!(searched(&design).is_ok());
+
+    let both = enabling(&[([0, -1], 1), ([0, -2], 2)]);
+    assert_eq!(judged_well(&design, &converter_bytes(&both)), Err(15));
+    for one in [enabling(&[([0, -1], 1)]), enabling(&[([0, -2], 2)])] {
+        assert_eq!(judged_well(&design, &converter_bytes(&one)), Ok(()));
+    }
+}
+
+#[test]
+fn both_of_two_inputs() {
+    let as_two_rules = two_inputs(next_zero_next_one(), vec![2, 3]);
+    assert_eq!(searched(&as_two_rules), Err(16));
+
+    let mut formulas = next_zero_next_one();
+    formulas.push(Formula::And(2, 3));
+    assert_eq!(searched(&two_inputs(formulas, vec![4])), Err(16));
+}
+
+/// Two rings of sixteen states, each of which ticks on or reads 1 and stays.
+/// State 15 has label 0 on side 1 and label 1 on side 2. Eight formulas are
+/// kept: 2, 3, 4, 5, 6, 8, 11 and 15.
+fn rings(last: Formula) -> Design {
+    let ring = |proposition: u8| {
+        let label = |own: u8| if own == 15 { vec![proposition] } else { vec![] };
+        (0..16).map(|own: u8| state(&label(own), &[(0, (own + 1) % 16), (1, own)])).collect()
+    };
+    let formulas = vec![
+        Formula::True,
+        Formula::Proposition(0),
+        Formula::Until(0, 1),
+        Formula::Always(2),
+        Formula::Proposition(1),
+        Formula::NotProposition(1),
+        Formula::NotProposition(0),
+        Formula::Or(6, 5),
+        Formula::Always(7),
+        Formula::Next(6),
+        Formula::Or(6, 9),
+        Formula::Always(10),
+        Formula::Next(5),
+        Formula::Next(4),
+        Formula::Or(13, 12),
+        last,
+    ];
+    Design { sides: [ring(0), ring(1)], formulas, rules: vec![3, 8, 11, 15] }
+}
+
+#[test]
+fn sixteen_and_sixteen_states() {
+    let one = rings(Formula::Always(14));
+    assert_eq!(one.kept().len(), 8);
+    assert_eq!(positions(&one), 65_536);
+    // Side 1 ticks round and round, side 2 reads 1 and stays where it is:
+    // a converter exists.
+    assert!(searched(&one).is_ok());
+
+    let two = rings(Formula::Until(14, 4));
+    assert_eq!(two.kept().len(), 8);
+    assert_eq!(positions(&two), 131_072);
+    assert_eq!(searched(&two), Err(9));
+}
+
+#[test]
+fn events_at_the_edge() {
+    let sending = |event| Design {
+        sides: [vec![state(&[], &[(event, 0)])], vec![state(&[], &[(0, 0)])]],
+        formulas: vec![],
+        rules: vec![],
+    };
+    assert_eq!(read_design(&sending(-63).to_bytes()), Ok(sending(-63)));
+    assert_eq!(read_design(&sending(-64).to_bytes()), Err(5));
+    assert_eq!(read_design(&sending(63).to_bytes()), Ok(sending(63)));
+    assert_eq!(read_design(&sending(64).to_bytes()), Err(5));
+    assert_eq!(read_design(&sending(-128).to_bytes()), Err(5));
+}
+
+#[test]
+fn tick_to_another_state_beside_a_sent_event() {
+    let waiting = |target| Design {
+        sides: [
+            vec![state(&[], &[(0, target), (-1, 0)]), state(&[], &[(0, 0)])],
+            vec![state(&[], &[(0, 0)])],
+        ],
+        formulas: vec![],
+        rules: vec![],
+    };
+    assert_eq!(read_design(&waiting(0).to_bytes()), Ok(waiting(0)));
+    assert_eq!(read_design(&waiting(1).to_bytes()), Err(6));
+}
+
+#[test]
+fn check_of_many_bytes() {
+    let mut block = [255; 512];
+    assert_eq!(check(&block), 64_514);
+    // The last two bytes aren't added up.
+    block[510..].fill(0);
+    assert_eq!(check(&block), 64_514);
+}

@@ -1,0 +1,126 @@
+//! The designs and converters of the scope paper's rows, and calls that hold
+//! every lent byte against what the paper says of it.
+
+// Each test file uses some of these.
+#![allow(dead_code)]
+
+use checker::bytes::{
+    positions, read_converter_memory, Design, Formula, Link, Record, State, Transition,
+};
+
+/// A state from the propositions of its label and its transitions.
+pub fn state(propositions: &[u8], transitions: &[(i8, u8)]) -> State {
+    State {
+        label: propositions.iter().map(|&p| 1 << p).sum(),
+        transitions: transitions
+            .iter()
+            .map(|&(event, target)| Transition { event, target })
+            .collect(),
+    }
+}
+
+/// A converter record from its pair and its transitions.
+pub fn record(pair: [u8; 2], links: &[([i8; 2], u16)]) -> Record {
+    Record { pair, links: links.iter().map(|&(events, next)| Link { events, next }).collect() }
+}
+
+/// The handshake pair H.
+pub fn handshake(formulas: Vec<Formula>, rules: Vec<u8>) -> Design {
+    let handshake = vec![state(&[0], &[(0, 0), (-1, 1)]), state(&[1], &[(0, 1), (-2, 0)])];
+    let serial = vec![state(&[2], &[(0, 0), (1, 1)]), state(&[3], &[(2, 0)])];
+    Design { sides: [handshake, serial], formulas, rules }
+}
+
+/// Converter F.
+pub fn figure_five() -> Vec<Record> {
+    vec![
+        record([0, 0], &[([1, 0], 1), ([0, 0], 0)]),
+        record([1, 0], &[([2, -1], 2), ([0, 0], 1)]),
+        record([0, 1], &[([1, -2], 1), ([0, -2], 0)]),
+    ]
+}
+
+/// A rule AG(a and b implies AX(c or d)), with its formulas put after those
+/// that are there. A literal is a proposition and whether it holds.
+fn rule(formulas: &mut Vec<Formula>, a: u8, b: u8, c: (u8, bool), d: (u8, bool)) -> u8 {
+    let literal =
+        |(p, holds)| if holds { Formula::Proposition(p) } else { Formula::NotProposition(p) };
+    let at = formulas.len();
+    formulas.extend([
+        literal((a, false)),
+        literal((b, false)),
+        Formula::Or(at, at + 1),
+        literal(c),
+        literal(d),
+        Formula::Or(at + 3, at + 4),
+        Formula::Next(at + 5),
+        Formula::Or(at + 2, at + 6),
+        Formula::Always(at + 7),
+    ]);
+    (at + 8) as u8
+}
+
+/// The source paper's four rules, the fourth as printed or as its words say.
+pub fn four_rules(as_printed: bool) -> (Vec<Formula>, Vec<u8>) {
+    let mut formulas = Vec::new();
+    let rules = vec![
+        rule(&mut formulas, 0, 2, (1, true), (3, false)),
+        rule(&mut formulas, 3, 1, (0, true), (2, false)),
+        rule(&mut formulas, 1, 2, (3, true), (0, false)),
+        rule(&mut formulas, 0, 3, (1, false), (2, !as_printed)),
+    ];
+    (formulas, rules)
+}
+
+/// H with the four rules.
+pub fn ruled_handshake(as_printed: bool) -> Design {
+    let (formulas, rules) = four_rules(as_printed);
+    handshake(formulas, rules)
+}
+
+/// Bytes that aren't zero and that differ from their neighbours.
+pub fn pattern(length: usize) -> Vec<u8> {
+    (0..length).map(|at| (at % 251 + 1) as u8).collect()
+}
+
+/// Bytes lent beyond those demanded.
+pub const BEYOND: usize = 53;
+
+/// Judges, and holds every byte of work against the paper.
+pub fn judged(design: &[u8], converter: &[u8], work_length: usize) -> Result<(), u8> {
+    let mut work = pattern(work_length);
+    let answer = checker::judge(design, converter, &mut work);
+    let mut expected = pattern(work_length);
+    if matches!(answer, Ok(()) | Err(14 | 15)) {
+        expected[..16 * (converter.len() / 36)].fill(0);
+    }
+    assert_eq!(work, expected, "work after {answer:?}");
+    answer
+}
+
+/// Judges with work to spare.
+pub fn judged_well(design: &Design, converter: &[u8]) -> Result<(), u8> {
+    judged(&design.to_bytes(), converter, 16 * (converter.len() / 36) + BEYOND)
+}
+
+/// Searches with the demanded lengths and some bytes beyond, and holds every
+/// lent byte against the paper. A converter found is matched and keeps the rules.
+pub fn searched(design: &Design) -> Result<Vec<Record>, u8> {
+    let positions = usize::try_from(positions(design)).unwrap();
+    let (table_length, work_length) = (36 * positions + BEYOND, 16 * positions + BEYOND);
+    let (mut table, mut work) = (pattern(table_length), pattern(work_length));
+    let answer = checker::search(&design.to_bytes(), &mut table, &mut work);
+    if matches!(answer, Ok(_) | Err(16)) {
+        let mut zeroed = pattern(work_length);
+        zeroed[..16 * positions].fill(0);
+        assert_eq!(work, zeroed, "work after {answer:?}");
+    } else {
+        assert_eq!(work, pattern(work_length), "work after {answer:?}");
+    }
+    let written = 36 * answer.unwrap_or(0);
+    assert_eq!(table[written..], pattern(table_length)[written..], "table after {answer:?}");
+    answer?;
+    assert!(written <= 36 * positions);
+    assert_eq!(judged_well(design, &table[..written]), Ok(()), "the converter found");
+    read_converter_memory(&table[..written])
+}

@@ -1,0 +1,73 @@
+//! A safe wrapper over the proved library: what its C header asks of a caller (valid pointers, lengths that belong to them, buffers that do not overlap)
+//! is kept here by slices. A refusal is an error with its number.
+#![warn(missing_docs)]
+
+/// The bytes of a design.
+pub const DESIGN: usize = 2048;
+/// The bytes of a converter record.
+pub const RECORD: usize = 36;
+/// The bytes of a block of a converter file.
+pub const BLOCK: usize = 512;
+/// The bytes of work for each position of a search and each record that is judged.
+pub const CELL: usize = 16;
+
+/// The number of a refusal.
+#[derive(Clone, Copy, Debug, PartialEq, Eq)]
+pub struct Refused(pub u8);
+
+/// The record that a runner stands at, and the events last delivered to the two sides.
+#[repr(C)]
+#[derive(Clone, Copy, Debug, Default, PartialEq, Eq)]
+pub struct Runner {
+    /// The number of the record.
+    pub record: u16,
+    /// The event last delivered to side 1.
+    pub first: i8,
+    /// The event last delivered to side 2.
+    pub second: i8,
+}
+
+extern "C" {
+    fn gorzhani_search(design: *const u8, design_len: usize, table: *mut u8, table_len: usize, work: *mut u8, work_len: usize) -> i32;
+    fn gorzhani_judge(design: *const u8, design_len: usize, converter: *const u8, converter_len: usize, work: *mut u8, work_len: usize) -> i32;
+    fn gorzhani_write(converter: *const u8, converter_len: usize, blocks: *mut u8, blocks_len: usize) -> i32;
+    fn gorzhani_read(blocks: *const u8, blocks_len: usize, converter: *mut u8, converter_len: usize) -> i32;
+    fn gorzhani_tick(converter: *const u8, converter_len: usize, runner: *mut Runner, first: i8, second: i8) -> i32;
+}
+
+fn answer(code: i32) -> Result<usize, Refused> {
+    match usize::try_from(code) {
+        Ok(count) => Ok(count),
+        Err(_) => Err(Refused(u8::try_from(-code).expect("a refusal's number is small"))),
+    }
+}
+
+/// Searches a converter for a design. The count of records at the front of the table, or the refusal; 16 where none exists.
+pub fn search(design: &[u8], table: &mut [u8], work: &mut [u8]) -> Result<usize, Refused> {
+    // SAFETY: the slices are valid for their lengths, and two `&mut` and a `&` do not overlap.
+    answer(unsafe { gorzhani_search(design.as_ptr(), design.len(), table.as_mut_ptr(), table.len(), work.as_mut_ptr(), work.len()) })
+}
+
+/// Judges a converter against a design.
+pub fn judge(design: &[u8], converter: &[u8], work: &mut [u8]) -> Result<(), Refused> {
+    // SAFETY: as above; the design and the converter are only read.
+    answer(unsafe { gorzhani_judge(design.as_ptr(), design.len(), converter.as_ptr(), converter.len(), work.as_mut_ptr(), work.len()) }).map(|_| ())
+}
+
+/// Writes a converter as blocks. The count of blocks.
+pub fn write(converter: &[u8], blocks: &mut [u8]) -> Result<usize, Refused> {
+    // SAFETY: as above.
+    answer(unsafe { gorzhani_write(converter.as_ptr(), converter.len(), blocks.as_mut_ptr(), blocks.len()) })
+}
+
+/// Reads a converter from blocks. The count of records.
+pub fn read(blocks: &[u8], converter: &mut [u8]) -> Result<usize, Refused> {
+    // SAFETY: as above.
+    answer(unsafe { gorzhani_read(blocks.as_ptr(), blocks.len(), converter.as_mut_ptr(), converter.len()) })
+}
+
+/// One tick of a converter.
+pub fn tick(converter: &[u8], runner: &mut Runner, shown: [i8; 2]) -> Result<(), Refused> {
+    // SAFETY: as above; `Runner` has the layout of the header's struct.
+    answer(unsafe { gorzhani_tick(converter.as_ptr(), converter.len(), runner, shown[0], shown[1]) }).map(|_| ())
+}
