@@ -7,6 +7,7 @@ use native.Mathlib.Omega.{arith}
 use borrow.Author.Tests.{leb-true, eqb-true, le-leb, eq-eqb, eqb-false}
 use lib.Dec.{leb, eqb}
 use lib.ListN.{length}
+use Rattle.model.specs.Judged.{all}
 use Rattle.model.specs.Converters.{node, edge}
 use Rattle.layout.specs.Sizes.{side-count, place-count, record-bytes, block-bytes, most-records}
 use Rattle.layout.specs.Bytes.{all-zero}
@@ -15,9 +16,9 @@ use Rattle.layout.specs.Unused.{converter-record, unused}
 use Rattle.layout.specs.Converters.{records, converter}
 use Rattle.layout.specs.Tests.{node-right}
 use Rattle.layout.specs.Files.{blocks-for}
-use Rattle.layout.specs.Refusals.{room-for-blocks, write-refusal, first-failing, size-right, record-right, records-right, converter-refusal}
+use Rattle.layout.specs.Refusals.{room-for-blocks, write-refusal, converter-tests, first-failing, size-right, record-right, records-right, converter-refusal}
 use Rattle.layout.proofs.Tables.{and-true, and-left, and-right, every-true, every-at, length-table}
-use Rattle.layout.proofs.FirstFailing.{passed, passes-on}
+use Rattle.layout.proofs.FirstFailing.{passed, passes-on, refused-later}
 use Rattle.layout.proofs.ConverterBytes.{node-at, names-at, edge-read}
 use Rattle.layout.proofs.Nodes.{WellFormedNode, well-formed}
 
@@ -81,9 +82,13 @@ module _ (cs : List ℕ) (room : ℕ) where
   write-accepted e =
       let p = passed record { number = 10; passes = size-right cs } (record { number = 11; passes = records-right cs } ∷ room-for-blocks cs room ∷ []) (eqb-false 10 0 refl) e in
       let q = passed record { number = 11; passes = records-right cs } (room-for-blocks cs room ∷ []) (eqb-false 11 0 refl) (p .1) in
-      let r = passed (room-for-blocks cs room) [] (eqb-false 12 0 refl) (q .1) in
-      (
+      let r = passed (room-for-blocks cs room) [] (eqb-false 12 0 refl) (q .1) in (
         passes-on record { number = 10; passes = size-right cs } (record { number = 11; passes = records-right cs } ∷ []) (p .0)
             ∙ passes-on record { number = 11; passes = records-right cs } [] (q .0),
         leb-true (block-bytes * blocks-for (records cs)) room (r .0),
       )
+
+  pub write-accepts : converter-refusal cs ≡ 0 → block-bytes * blocks-for (records cs) ≤ room → write-refusal cs room ≡ 0
+  unfolding write-refusal converter-refusal first-failing all
+  write-accepts e h =
+      refused-later (converter-tests cs) (room-for-blocks cs room ∷ []) refl e ∙ passes-on (room-for-blocks cs room) [] (le-leb (block-bytes * blocks-for (records cs)) room h)

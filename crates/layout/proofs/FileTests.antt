@@ -1,5 +1,5 @@
 -- Refusals 2, 3, 4 and 8 of a file: found block by block, and what it says of the file that none holds.
-use mathlib.Core.Path.{_≡_, refl, sym, ap, ap₂, _∙_}
+use mathlib.Core.Path.{_≡_, refl, sym, ap, _∙_}
 use mathlib.Core.Bool.{Bool, true, false, _&&_, cond, and-comm, and-assoc}
 use mathlib.Core.List.{List, [], _∷_}
 use Prim.Native.Nat.{ℕ, suc, _+_, _-_, _*_, _≤_, _<_}
@@ -7,7 +7,6 @@ use native.Mathlib.Numerals.{add-one}
 use native.Mathlib.Omega.{arith}
 use borrow.Author.Tests.{leb-true, le-leb, eqb-false}
 use lib.Dec.{leb}
-use lib.ListN.{length, getD}
 use Rattle.model.specs.Judged.{all}
 use Rattle.layout.specs.Sizes.{block-records, most-records}
 use Rattle.layout.specs.Tables.{table, every}

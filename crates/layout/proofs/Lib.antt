@@ -16,7 +16,11 @@ pub mod Parts
 pub mod Pieces
 pub mod Put
 pub mod RecordBytes
+pub mod ReadWritten
+pub mod RoundTrip
 pub mod Sealed
+pub mod SealedBytes
 pub mod SignedBytes
 pub mod Tables
 pub mod WrittenFile
+pub mod WrittenRead

@@ -19,7 +19,6 @@ pub const TRANSITION_BYTES: usize = 4;
 
 pub const MOST_RECORDS: usize = 65536;
 
-
 // A block: its bytes, and where its record count, the number of its first record, its records and its check stand.
 pub const BLOCK_BYTES: usize = 512;
 
