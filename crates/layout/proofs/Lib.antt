@@ -11,3 +11,4 @@ pub mod FormulaTests
 pub mod Passing
 pub mod WellFormed
 pub mod FormKinds
+pub mod PositionCount

@@ -12,3 +12,4 @@ pub mod Converters
 pub mod Files
 pub mod Tests
 pub mod Refusals
+pub mod Counted
