@@ -5,7 +5,7 @@ use mathlib.Core.List.{List, [], _∷_}
 use Prim.Native.Nat.{ℕ, _*_, _%_, _≤_, _<_}
 use native.Mathlib.Omega.{arith}
 use borrow.Author.Tests.{leb-true, eqb-true, le-leb, eq-eqb, eqb-false}
-use lib.Dec.{leb, eqb}
+use lib.Dec.{lit<, leb, eqb}
 use lib.ListN.{length}
 use Rattle.model.specs.Judged.{all}
 use Rattle.model.specs.Converters.{node, edge}
@@ -18,7 +18,7 @@ use Rattle.layout.specs.Tests.{node-right}
 use Rattle.layout.specs.Files.{blocks-for}
 use Rattle.layout.specs.Refusals.{room-for-blocks, write-refusal, converter-tests, first-failing, size-right, record-right, records-right, converter-refusal}
 use Rattle.layout.proofs.Tables.{and-true, and-left, and-right, every-true, every-at, length-table}
-use Rattle.layout.proofs.FirstFailing.{passed, passes-on, refused-later}
+use Rattle.layout.proofs.Passing.{passed, passes-on, refused-later}
 use Rattle.layout.proofs.ConverterBytes.{node-at, names-at, edge-read}
 use Rattle.layout.proofs.Nodes.{WellFormedNode, well-formed}
 
@@ -32,8 +32,8 @@ module _ (cs : List ℕ) where
   pub accepted : converter-refusal cs ≡ 0 → Accepted cs
   unfolding converter-refusal size-right records-right
   accepted e =
-      let p = passed record { number = 10; passes = size-right cs } (record { number = 11; passes = records-right cs } ∷ []) (eqb-false 10 0 refl) e in
-      let q = passed record { number = 11; passes = records-right cs } [] (eqb-false 11 0 refl) (p .1) in
+      let p = passed record { number = 10; passes = size-right cs } (record { number = 11; passes = records-right cs } ∷ []) (lit< tt) e in
+      let q = passed record { number = 11; passes = records-right cs } [] (lit< tt) (p .1) in
       let s = and-left (leb 1 (length cs) && eqb (length cs % record-bytes) 0) (leb (records cs) most-records) (p .0) in
       let some = leb-true 1 (length cs) (and-left (leb 1 (length cs)) (eqb (length cs % record-bytes) 0) s) in
       let whole = eqb-true (length cs % record-bytes) 0 (and-right (leb 1 (length cs)) (eqb (length cs % record-bytes) 0) s) in
@@ -80,9 +80,9 @@ module _ (cs : List ℕ) (room : ℕ) where
   pub write-accepted : write-refusal cs room ≡ 0 → (converter-refusal cs ≡ 0) × (block-bytes * blocks-for (records cs) ≤ room)
   unfolding write-refusal converter-refusal first-failing
   write-accepted e =
-      let p = passed record { number = 10; passes = size-right cs } (record { number = 11; passes = records-right cs } ∷ room-for-blocks cs room ∷ []) (eqb-false 10 0 refl) e in
-      let q = passed record { number = 11; passes = records-right cs } (room-for-blocks cs room ∷ []) (eqb-false 11 0 refl) (p .1) in
-      let r = passed (room-for-blocks cs room) [] (eqb-false 12 0 refl) (q .1) in (
+      let p = passed record { number = 10; passes = size-right cs } (record { number = 11; passes = records-right cs } ∷ room-for-blocks cs room ∷ []) (lit< tt) e in
+      let q = passed record { number = 11; passes = records-right cs } (room-for-blocks cs room ∷ []) (lit< tt) (p .1) in
+      let r = passed (room-for-blocks cs room) [] (lit< tt) (q .1) in (
         passes-on record { number = 10; passes = size-right cs } (record { number = 11; passes = records-right cs } ∷ []) (p .0)
             ∙ passes-on record { number = 11; passes = records-right cs } [] (q .0),
         leb-true (block-bytes * blocks-for (records cs)) room (r .0),

@@ -22,7 +22,7 @@ use Rattle.layout.proofs.Parts.{length-part, byte-part}
 use Rattle.layout.proofs.Pieces.{pieces-more}
 use Rattle.layout.proofs.Sealed.{length-unsealed, length-sealed}
 use Rattle.layout.proofs.SealedBytes.{unsealed-kind, unsealed-count, unsealed-low, unsealed-high, unsealed-record, unsealed-zero, sealed-byte, sealed-low, sealed-high}
-use Rattle.layout.proofs.Nodes.{all-at}
+use Rattle.layout.proofs.Tables.{all-at}
 use Rattle.layout.proofs.Accepted.{Accepted}
 use Rattle.layout.proofs.WrittenFile.{block-part, length-block-part, first-blocks}
 use Rattle.layout.proofs.BlockTests.{Counted, checked, headed, counted, unused-behind}

@@ -1,76 +1,101 @@
 -- Tables by number and tests over them: length, entries, and how a loop that tests one number after another finds the answer.
-use mathlib.Core.Path.{_≡_, refl, sym, ap, _∙_}
-use mathlib.Core.Bool.{Bool, true, false, false≢true, _&&_}
-use mathlib.Core.List.{List, [], _∷_}
-use Prim.Native.Nat.{ℕ, zero, suc, _+_, _≤_, _<_}
+use mathlib.Core.Path.{_≡_, refl, sym, ap, subst, subst⁻¹, _∙_}
+use mathlib.Core.Bool.{Bool, true, false, not, _&&_}
+use mathlib.Core.List.{List}
+use Prim.Native.Nat.{ℕ, zero, suc, _+_, _<_}
 use native.Mathlib.Nat.{not-suc-le-zero}
-use native.Mathlib.Decide.{ℕ-discrete}
+use native.Mathlib.Decide.{ℕ-discrete, decLt}
 use native.Mathlib.Omega.{arith}
+use lib.Dec.{T, T-not, not-T}
 use lib.ListN.{length, getD}
 use lib.Seq.{ext-getD}
 use Rattle.model.specs.Judged.{all}
-use Rattle.layout.specs.Tables.{table, table-from, every}
+use Rattle.model.proofs.Bools.{T-true, T-false, and-both, both-and}
+use Rattle.model.proofs.Lists.{all-in, in-all, getD-in, index-in}
+use Rattle.layout.specs.Tables.{table, table-from, every, distinct}
 
--- ---- conjunctions
-pub and-true : (a b : Bool) → a ≡ true → b ≡ true → (a && b) ≡ true
-and-true a b p q = ap (λ x. x && b) p ∙ q
+-- ---- tests as equations, which is how code tells them
+pub true-T : (b : Bool) → b ≡ true → T b
+true-T b e = subst⁻¹ T e tt
 
-pub and-false : (a b : Bool) → a ≡ false → (a && b) ≡ false
-and-false a b p = ap (λ x. x && b) p
-
-pub and-false-right : (a b : Bool) → b ≡ false → (a && b) ≡ false
-and-false-right true b p = p
-and-false-right false b p = refl
-
-pub and-left : (a b : Bool) → (a && b) ≡ true → a ≡ true
-and-left true b p = refl
-and-left false b p = p
-
-pub and-right : (a b : Bool) → (a && b) ≡ true → b ≡ true
-and-right true b p = p
-and-right false b p = absurd (false≢true p)
+pub false-T : (b : Bool) → b ≡ false → T b → ⊥
+false-T b e t = subst T e t
 
 pub and-unit : (a : Bool) → (a && true) ≡ a
 and-unit true = refl
 and-unit false = refl
 
+pub and-false : (a b : Bool) → a ≡ false → (a && b) ≡ false
+and-false a b e = ap (λ x. x && b) e
+
+pub and-false-right : (a b : Bool) → b ≡ false → (a && b) ≡ false
+and-false-right a b e = T-false (a && b) (λ t. false-T b e (and-both a b t .1))
+
+pub and-true : (a b : Bool) → a ≡ true → b ≡ true → (a && b) ≡ true
+and-true a b p q = T-true (a && b) (both-and a b (true-T a p) (true-T b q))
+
+pub and-left : (a b : Bool) → (a && b) ≡ true → a ≡ true
+and-left a b e = T-true a (and-both a b (true-T (a && b) e) .0)
+
+pub and-right : (a b : Bool) → (a && b) ≡ true → b ≡ true
+and-right a b e = T-true b (and-both a b (true-T (a && b) e) .1)
+
 -- ---- each number below n
 module _ (p : ℕ → Bool) where
-  pub every-true : (n : ℕ) → ((k : ℕ) → k < n → p k ≡ true) → every n p ≡ true
+  pub each-every : (n : ℕ) → ((k : ℕ) → k < n → T (p k)) → T (every n p)
   unfolding every
-  every-true zero f = refl
-  every-true (suc n) f = and-true (every n p) (p n) (every-true n (λ k h. f k (omega arith))) (f n (omega arith))
+  each-every zero f = tt
+  each-every (suc n) f = both-and (every n p) (p n) (each-every n (λ k h. f k (omega arith))) (f n (omega arith))
+
+  pub every-each : (n : ℕ) → T (every n p) → (k : ℕ) → k < n → T (p k)
+  unfolding every
+  every-each zero t k h = absurd (not-suc-le-zero h)
+  every-each (suc n) t k h =
+      let w = and-both (every n p) (p n) t in
+      elim (ℕ-discrete k n) [ yes e ↦ subst⁻¹ (λ j. T (p j)) e (w .1) | no ne ↦ every-each n (w .0) k (omega arith) ]
+
+  pub every-true : (n : ℕ) → ((k : ℕ) → k < n → p k ≡ true) → every n p ≡ true
+  every-true n f = T-true (every n p) (each-every n (λ k h. true-T (p k) (f k h)))
 
   pub every-false : (n k : ℕ) → k < n → p k ≡ false → every n p ≡ false
-  unfolding every
-  every-false zero k h q = absurd (not-suc-le-zero h)
-  every-false (suc n) k h q = by (ℕ-discrete k n) (λ (l : k < n). every-false n k l q)
-    where
-      by : Dec (k ≡ n) → (k < n → every n p ≡ false) → (every n p && p n) ≡ false
-      by (yes e) rec = and-false-right (every n p) (p n) (ap p (sym e) ∙ q)
-      by (no ne) rec = and-false (every n p) (p n) (rec (omega arith))
+  every-false n k h e = T-false (every n p) (λ t. false-T (p k) e (every-each n t k h))
 
   pub every-at : (n : ℕ) → every n p ≡ true → (k : ℕ) → k < n → p k ≡ true
-  unfolding every
-  every-at zero e k h = absurd (not-suc-le-zero h)
-  every-at (suc n) e k h = by (ℕ-discrete k n) (λ (l : k < n). every-at n (and-left (every n p) (p n) e) k l)
-    where
-      by : Dec (k ≡ n) → (k < n → p k ≡ true) → p k ≡ true
-      by (yes q) rec = ap p q ∙ and-right (every n p) (p n) e
-      by (no ne) rec = rec (omega arith)
+  every-at n e k h = T-true (p k) (every-each n (true-T (every n p) e) k h)
 
--- ---- each element of a list
+-- ---- each element of a list, by index
 module _ {A : Type 0} (p : A → Bool) (d : A) where
   pub all-true : (l : List A) → ((k : ℕ) → k < length l → p (getD l k d) ≡ true) → all p l ≡ true
-  unfolding all
-  all-true [] f = refl
-  all-true (x ∷ l) f = and-true (p x) (all p l) (f 0 (omega arith)) (all-true l (λ k h. f (suc k) (omega arith)))
+  all-true l f =
+      T-true (all p l) (in-all p l (λ a i. let w = index-in d i in true-T (p a) (ap p (sym (w .2)) ∙ f (w .0) (w .1))))
 
   pub all-false : (l : List A) (k : ℕ) → k < length l → p (getD l k d) ≡ false → all p l ≡ false
-  unfolding all
-  all-false [] k h q = absurd (not-suc-le-zero h)
-  all-false (x ∷ l) zero h q = and-false (p x) (all p l) q
-  all-false (x ∷ l) (suc k) h q = and-false-right (p x) (all p l) (all-false l k (omega arith) q)
+  all-false l k h e = T-false (all p l) (λ t. false-T (p (getD l k d)) e (all-in p (getD-in l k d h) t))
+
+  pub all-at : (l : List A) → all p l ≡ true → (k : ℕ) → k < length l → p (getD l k d) ≡ true
+  all-at l e k h = T-true (p (getD l k d)) (all-in p (getD-in l k d h) (true-T (all p l) e))
+
+-- ---- no two the same, by a test that is symmetric
+module _ (same : ℕ → ℕ → Bool) (swap : (j k : ℕ) → T (same j k) → T (same k j)) where
+  -- a lower number and a higher one
+  apart : (n : ℕ) → T (distinct n same) → (j k : ℕ) → j < k → k < n → T (same j k) → ⊥
+  unfolding distinct
+  apart n t j k h hk s =
+      T-not (same j k) (every-each (λ i. not (same i k)) k (every-each (λ k. every k (λ i. not (same i k))) n t k hk) j h) s
+
+  pub distinct-once : (n : ℕ) → T (distinct n same) → (j k : ℕ) → j < n → k < n → T (same j k) → j ≡ k
+  distinct-once n t j k hj hk s =
+      elim (ℕ-discrete j k) [
+        | yes e ↦ e
+        | no ne ↦
+            absurd (elim (decLt j k) [ yes l ↦ apart n t j k l hk s | no nl ↦ apart n t k j (omega arith) hj (swap j k s) ])
+      ]
+
+  pub once-distinct : (n : ℕ) → ((j k : ℕ) → j < n → k < n → T (same j k) → j ≡ k) → T (distinct n same)
+  unfolding distinct
+  once-distinct n f =
+      each-every (λ j. every j (λ i. not (same i j))) n
+      (λ j hj. each-every (λ i. not (same i j)) j (λ i hi. not-T (same i j) (λ s. let e : i ≡ j = f i j (omega arith) hj s in omega arith)))
 
 -- ---- tables
 module _ {A : Type 0} (f : ℕ → A) where

@@ -85,8 +85,8 @@ fn names_right(names: [u8; 2]) -> bool
     ensures { λ r. ⌜ r ≡ all (λ s. ltb s most-states) names ⌝ }
 {
     let mut i = 0;
-    while i < sizes::SIDE_COUNT {
-        if sizes::MOST_STATES <= names[i] {
+    while i < sizes::SIDES {
+        if sizes::MOST_STATES <= names[i] as usize {
             return false;
         }
         i += 1;
@@ -99,7 +99,7 @@ fn transition_right(t: Transition, n: usize) -> bool
     ensures { λ r. ⌜ r ≡ (all in-range (t .events) && ltb (t .next) n) ⌝ }
 {
     let mut i = 0;
-    while i < sizes::SIDE_COUNT {
+    while i < sizes::SIDES {
         if !events::in_range(t.events[i]) {
             return false;
         }
@@ -121,7 +121,7 @@ fn node_right(r: Record, n: usize) -> bool
     if count == 0 {
         return false;
     }
-    if sizes::PLACE_COUNT < count {
+    if sizes::PLACES < count {
         return false;
     }
     let mut made = Record::new(names);

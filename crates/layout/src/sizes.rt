@@ -1,12 +1,27 @@
-// Sizes and limits, as specs/Sizes has them.
+// Every size and every limit, in one place, as in specs/Sizes.
 
-pub const SIDE_COUNT: usize = 2;
+// What a design has.
+pub const SIDES: usize = 2;
 
-pub const MOST_STATES: u8 = 16;
-// Transition places of a converter record.
-pub const PLACE_COUNT: usize = 8;
+pub const MOST_STATES: usize = 16;
 
-// A converter record: its bytes, and where its count, its unused byte and its places stand.
+pub const MOST_FORMULAS: usize = 64;
+
+pub const MOST_RULES: usize = 16;
+
+pub const LAST_PROPOSITION: u8 = 15;
+// Transition places of a state, and of a converter record.
+pub const PLACES: usize = 8;
+
+pub const MOST_POSITIONS: u32 = 65536;
+
+// Records: their bytes, where a record with places has its count, its unused byte and its places, and the bytes of a place.
+pub const STATE_BYTES: usize = 20;
+
+pub const FORMULA_BYTES: usize = 4;
+
+pub const RULE_BYTES: usize = 1;
+
 pub const RECORD_BYTES: usize = 36;
 
 pub const COUNT_AT: usize = 2;
@@ -15,11 +30,13 @@ pub const GAP_AT: usize = 3;
 
 pub const PLACES_AT: usize = 4;
 
+pub const MOVE_BYTES: usize = 2;
+
 pub const TRANSITION_BYTES: usize = 4;
 
-pub const MOST_RECORDS: usize = 65536;
+pub const NEXT_AT: usize = 2;
 
-// A block: its bytes, and where its record count, the number of its first record, its records and its check stand.
+// Blocks.
 pub const BLOCK_BYTES: usize = 512;
 
 pub const COUNT_IN_BLOCK: usize = 1;
@@ -30,9 +47,15 @@ pub const RECORDS_IN_BLOCK: usize = 4;
 
 pub const CHECK_IN_BLOCK: usize = 510;
 
-// A converter file: the kind of its blocks, how many converter records a block holds, and how many blocks 65,536 records fill.
+pub const DESIGN_BYTES: usize = 2048;
+
+// Converters.
 pub const CONVERTER_KIND: u8 = 5;
 
 pub const BLOCK_RECORDS: usize = 14;
+
+pub const BLOCK_RECORD_BYTES: usize = 504;
+
+pub const MOST_RECORDS: usize = 65536;
 
 pub const MOST_BLOCKS: usize = 4682;

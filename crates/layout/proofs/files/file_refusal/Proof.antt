@@ -9,7 +9,7 @@ use borrow.Author.Tests.{not-true, not-false}
 use Rattle.model.specs.Judged.{all}
 use Rattle.layout.specs.Files.{blocks, file-block, file-records}
 use Rattle.layout.specs.Refusals.{Test, first-failing, block-tests, earlier, file-size-right, records-right, file-tests}
-use Rattle.layout.proofs.FirstFailing.{passes-on, refused-first, refused-later}
+use Rattle.layout.proofs.Passing.{passes-on, refused-first, refused-later}
 use Rattle.layout.proofs.FileSizes.{sized}
 use Rattle.layout.proofs.FileTests.{so-far, start, next, whole, end, blocks-pass, count-fits}
 use Rattle.layout.proofs.files.file_refusal.Statement.{statement}

@@ -9,7 +9,7 @@ use Rattle.model.specs.Judged.{all}
 use Rattle.layout.specs.Converters.{records}
 use Rattle.layout.specs.Files.{blocks-for}
 use Rattle.layout.specs.Refusals.{first-failing, converter-tests, converter-refusal, room-for-blocks, write-refusal}
-use Rattle.layout.proofs.FirstFailing.{refused-first, refused-later}
+use Rattle.layout.proofs.Passing.{refused-first, refused-later}
 use Rattle.layout.proofs.Accepted.{accepted}
 use borrow.Author.Needs.{needs}
 use Rattle.layout.proofs.files.write_refusal.Statement.{statement}
