@@ -13,6 +13,8 @@ pub mod SignedBytes
 pub mod StateMoves
 pub mod RecordBytes
 pub mod StateTests
+pub mod FormulaRecords
 pub mod FormulaTests
 pub mod Passing
 pub mod WellFormed
+pub mod ZeroBytes

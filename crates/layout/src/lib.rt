@@ -1,4 +1,5 @@
 // Bytes: designs, converters and blocks, with every refusal in its order. Offsets stand here and nowhere above.
+pub mod blocks;
 pub mod designs;
 pub mod events;
 pub mod formulas;
