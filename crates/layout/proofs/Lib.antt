@@ -18,3 +18,5 @@ pub mod FormulaTests
 pub mod Passing
 pub mod WellFormed
 pub mod ZeroBytes
+pub mod FormKinds
+pub mod PositionCount
