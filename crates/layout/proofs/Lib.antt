@@ -1,16 +1,24 @@
 -- Two theorems to read first: `WellFormed`, a design that passes tests 1 to 8 is well formed in the model's sense; and `RoundTrip`, a converter that is
 -- written is read back the same, and only such files are read. The rest is what proofs of functions cite.
 pub mod Tables
+pub mod AnyOf
 pub mod DesignBytes
+pub mod JointLaws
+pub mod JointMoves
+pub mod KindTests
 pub mod Parts
 pub mod Pieces
 pub mod Put
+pub mod ShowDigits
 pub mod SignedBytes
+pub mod StateMoves
 pub mod RecordBytes
 pub mod StateTests
+pub mod FormulaRecords
 pub mod FormulaTests
 pub mod Passing
 pub mod WellFormed
+pub mod ZeroBytes
 pub mod FormKinds
 pub mod PositionCount
 pub mod ConverterBytes

@@ -6,16 +6,22 @@ ghost use Rattle.layout.specs.Sizes.{side-count, most-states, most-formu
 ghost use Rattle.layout.specs.Designs.{design, side, stored-state, stored-formula};
 use crate::formulas;
 use crate::formulas::FormulaRecord;
+use crate::sizes;
 use crate::states;
 use crate::states::StateRecord;
 use crate::words;
+
+// Where the blocks of formulas and of rules stand, behind those of the sides.
+pub const FORMULAS: usize = sizes::SIDES * sizes::BLOCK_BYTES;
+
+pub const RULES: usize = FORMULAS + sizes::BLOCK_BYTES;
 
 // How many states side i has.
 pub fn state_count(s: &[u8], i: usize) -> usize
     requires { ⌜ (length (now s) ≡ design-bytes) × (i < side-count) ⌝ }
     ensures { λ r. ⌜ r ≡ length (side (design (now (s .entry))) i) ⌝ }
 {
-    words::read_byte(s, 512 * i + 1)
+    words::read_byte(s, sizes::BLOCK_BYTES * i + sizes::COUNT_IN_BLOCK)
 }
 
 // State k of side i.
@@ -23,28 +29,34 @@ pub fn side_state(s: &[u8], i: usize, k: usize) -> StateRecord
     requires { ⌜ (length (now s) ≡ design-bytes) × (i < side-count) × (k < most-states) ⌝ }
     ensures { λ r. ⌜ r ≡ stored-state (now (s .entry)) i k ⌝ }
 {
-    states::read_state(s, 512 * i + 4 + 20 * k)
+    states::read_state(
+        s,
+        sizes::BLOCK_BYTES * i + sizes::RECORDS_IN_BLOCK + sizes::STATE_BYTES * k,
+    )
 }
 
 pub fn formula_count(s: &[u8]) -> usize
     requires { ⌜ length (now s) ≡ design-bytes ⌝ }
     ensures { λ r. ⌜ r ≡ length (design (now (s .entry)) .forms) ⌝ }
 {
-    words::read_byte(s, 1025)
+    words::read_byte(s, FORMULAS + sizes::COUNT_IN_BLOCK)
 }
 
 pub fn formula(s: &[u8], k: usize) -> FormulaRecord
     requires { ⌜ (length (now s) ≡ design-bytes) × (k < most-formulas) ⌝ }
     ensures { λ r. ⌜ r ≡ stored-formula (now (s .entry)) k ⌝ }
 {
-    formulas::read_formula(s, 1028 + 4 * k)
+    formulas::read_formula(
+        s,
+        FORMULAS + sizes::RECORDS_IN_BLOCK + sizes::FORMULA_BYTES * k,
+    )
 }
 
 pub fn rule_count(s: &[u8]) -> usize
     requires { ⌜ length (now s) ≡ design-bytes ⌝ }
     ensures { λ r. ⌜ r ≡ length (design (now (s .entry)) .rules) ⌝ }
 {
-    words::read_byte(s, 1537)
+    words::read_byte(s, RULES + sizes::COUNT_IN_BLOCK)
 }
 
 // The formula number of rule k.
@@ -52,5 +64,5 @@ pub fn rule(s: &[u8], k: usize) -> usize
     requires { ⌜ (length (now s) ≡ design-bytes) × (k < length (design (now s) .rules)) × (k < most-rules) ⌝ }
     ensures { λ r. ⌜ r ≡ getD (design (now (s .entry)) .rules) k 0 ⌝ }
 {
-    words::read_byte(s, 1540 + k)
+    words::read_byte(s, RULES + sizes::RECORDS_IN_BLOCK + k)
 }

@@ -4,11 +4,14 @@ use borrow.Author.Needs.{needs}
 use Rattle.layout.proofs.designs.formula.Statement.{statement}
 use Rattle.layout.proofs.designs.formula.Tie as tie
 
+add-read-formula : tie.Need-add-read-formula
+add-read-formula c = search needs
+
 mul-read-formula : tie.Need-mul-read-formula
 mul-read-formula c = search needs
 
-add-read-formula : tie.Need-add-read-formula
-add-read-formula c = search needs
+add-read-formula-2 : tie.Need-add-read-formula-2
+add-read-formula-2 c = search needs
 
 read-formula-requires : tie.Need-read-formula-requires
 read-formula-requires c κs = search needs
@@ -18,4 +21,4 @@ unfolding stored-formula
 returns c = c .read-formula .ensures
 
 pub formula-spec : {M : Type 1} → statement M
-formula-spec = tie.close (tie.spec mul-read-formula add-read-formula read-formula-requires returns)
+formula-spec = tie.close (tie.spec add-read-formula mul-read-formula add-read-formula-2 read-formula-requires returns)

@@ -10,6 +10,9 @@ use Rattle.layout.proofs.designs.rule.Tie as tie
 add-read-byte : tie.Need-add-read-byte
 add-read-byte c = search needs
 
+add-read-byte-2 : tie.Need-add-read-byte-2
+add-read-byte-2 c = search needs
+
 read-byte-requires : tie.Need-read-byte-requires
 read-byte-requires c κs = search needs
 
@@ -19,4 +22,4 @@ returns c =
     c .read-byte .ensures ∙ ap (byte (a .s .now)) (omega arith) ∙ stored-rule-is (a .s .now) (a .k) (c .before .before .pre .1)
 
 pub rule-spec : {M : Type 1} → statement M
-rule-spec = tie.close (tie.spec add-read-byte read-byte-requires returns)
+rule-spec = tie.close (tie.spec add-read-byte add-read-byte-2 read-byte-requires returns)

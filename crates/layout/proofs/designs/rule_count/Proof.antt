@@ -5,6 +5,9 @@ use borrow.Author.Needs.{needs}
 use Rattle.layout.proofs.designs.rule_count.Statement.{statement}
 use Rattle.layout.proofs.designs.rule_count.Tie as tie
 
+add-read-byte : tie.Need-add-read-byte
+add-read-byte c = search needs
+
 read-byte-requires : tie.Need-read-byte-requires
 read-byte-requires c κs = search needs
 
@@ -12,4 +15,4 @@ returns : tie.Need-returns
 returns c = c .read-byte .ensures ∙ sym (rules-length (c .before .before .args .s .now))
 
 pub rule-count-spec : {M : Type 1} → statement M
-rule-count-spec = tie.close (tie.spec read-byte-requires returns)
+rule-count-spec = tie.close (tie.spec add-read-byte read-byte-requires returns)
