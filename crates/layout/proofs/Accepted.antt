@@ -5,8 +5,9 @@ use mathlib.Core.List.{List, [], _∷_}
 use Prim.Native.Nat.{ℕ, _*_, _%_, _≤_, _<_}
 use native.Mathlib.Omega.{arith}
 use borrow.Author.Tests.{leb-true, eqb-true, le-leb, eq-eqb, eqb-false}
-use lib.Dec.{leb, eqb}
+use lib.Dec.{lit<, leb, eqb}
 use lib.ListN.{length}
+use Rattle.model.specs.Judged.{all}
 use Rattle.model.specs.Converters.{node, edge}
 use Rattle.layout.specs.Sizes.{side-count, place-count, record-bytes, block-bytes, most-records}
 use Rattle.layout.specs.Bytes.{all-zero}
@@ -15,9 +16,9 @@ use Rattle.layout.specs.Unused.{converter-record, unused}
 use Rattle.layout.specs.Converters.{records, converter}
 use Rattle.layout.specs.Tests.{node-right}
 use Rattle.layout.specs.Files.{blocks-for}
-use Rattle.layout.specs.Refusals.{room-for-blocks, write-refusal, first-failing, size-right, record-right, records-right, converter-refusal}
+use Rattle.layout.specs.Refusals.{room-for-blocks, write-refusal, converter-tests, first-failing, size-right, record-right, records-right, converter-refusal}
 use Rattle.layout.proofs.Tables.{and-true, and-left, and-right, every-true, every-at, length-table}
-use Rattle.layout.proofs.FirstFailing.{passed, passes-on}
+use Rattle.layout.proofs.Passing.{passed, passes-on, refused-later}
 use Rattle.layout.proofs.ConverterBytes.{node-at, names-at, edge-read}
 use Rattle.layout.proofs.Nodes.{WellFormedNode, well-formed}
 
@@ -31,8 +32,8 @@ module _ (cs : List ℕ) where
   pub accepted : converter-refusal cs ≡ 0 → Accepted cs
   unfolding converter-refusal size-right records-right
   accepted e =
-      let p = passed record { number = 10; passes = size-right cs } (record { number = 11; passes = records-right cs } ∷ []) (eqb-false 10 0 refl) e in
-      let q = passed record { number = 11; passes = records-right cs } [] (eqb-false 11 0 refl) (p .1) in
+      let p = passed record { number = 10; passes = size-right cs } (record { number = 11; passes = records-right cs } ∷ []) (lit< tt) e in
+      let q = passed record { number = 11; passes = records-right cs } [] (lit< tt) (p .1) in
       let s = and-left (leb 1 (length cs) && eqb (length cs % record-bytes) 0) (leb (records cs) most-records) (p .0) in
       let some = leb-true 1 (length cs) (and-left (leb 1 (length cs)) (eqb (length cs % record-bytes) 0) s) in
       let whole = eqb-true (length cs % record-bytes) 0 (and-right (leb 1 (length cs)) (eqb (length cs % record-bytes) 0) s) in
@@ -66,28 +67,28 @@ module _ (cs : List ℕ) where
   unfolding transition-at
   two-events c k h l u = sym (ap (λ e. length (e .events)) (edge-read cs c h k l u)) ∙ length-table _ _
 
-  -- a record that is right
-  pub right-well-formed : (c : ℕ) → c < records cs → record-right cs (records cs) (record-bytes * c) ≡ true → WellFormedNode (records cs) (node (converter cs) c)
-  unfolding record-right
-  right-well-formed c h e =
-      subst (WellFormedNode (records cs)) (node-at cs c h)
-      (well-formed (records cs) (node-of (record-at cs (record-bytes * c)))
-      (and-left (node-right (records cs) (node-of (record-at cs (record-bytes * c)))) (all-zero (unused converter-record cs (record-bytes * c))) e))
-
   -- each record of a converter that isn't refused
   pub each-well-formed : converter-refusal cs ≡ 0 → (c : ℕ) → c < records cs → WellFormedNode (records cs) (node (converter cs) c)
-  each-well-formed e c h = right-well-formed c h (accepted e .right c h)
+  unfolding record-right
+  each-well-formed e c h =
+      subst (WellFormedNode (records cs)) (node-at cs c h)
+      (well-formed (records cs) (node-of (record-at cs (record-bytes * c)))
+      (and-left (node-right (records cs) (node-of (record-at cs (record-bytes * c)))) (all-zero (unused converter-record cs (record-bytes * c))) (accepted e .right c h)))
 
 -- ---- the writer
 module _ (cs : List ℕ) (room : ℕ) where
   pub write-accepted : write-refusal cs room ≡ 0 → (converter-refusal cs ≡ 0) × (block-bytes * blocks-for (records cs) ≤ room)
   unfolding write-refusal converter-refusal first-failing
   write-accepted e =
-      let p = passed record { number = 10; passes = size-right cs } (record { number = 11; passes = records-right cs } ∷ room-for-blocks cs room ∷ []) (eqb-false 10 0 refl) e in
-      let q = passed record { number = 11; passes = records-right cs } (room-for-blocks cs room ∷ []) (eqb-false 11 0 refl) (p .1) in
-      let r = passed (room-for-blocks cs room) [] (eqb-false 12 0 refl) (q .1) in
-      (
+      let p = passed record { number = 10; passes = size-right cs } (record { number = 11; passes = records-right cs } ∷ room-for-blocks cs room ∷ []) (lit< tt) e in
+      let q = passed record { number = 11; passes = records-right cs } (room-for-blocks cs room ∷ []) (lit< tt) (p .1) in
+      let r = passed (room-for-blocks cs room) [] (lit< tt) (q .1) in (
         passes-on record { number = 10; passes = size-right cs } (record { number = 11; passes = records-right cs } ∷ []) (p .0)
             ∙ passes-on record { number = 11; passes = records-right cs } [] (q .0),
         leb-true (block-bytes * blocks-for (records cs)) room (r .0),
       )
+
+  pub write-accepts : converter-refusal cs ≡ 0 → block-bytes * blocks-for (records cs) ≤ room → write-refusal cs room ≡ 0
+  unfolding write-refusal converter-refusal first-failing all
+  write-accepts e h =
+      refused-later (converter-tests cs) (room-for-blocks cs room ∷ []) refl e ∙ passes-on (room-for-blocks cs room) [] (le-leb (block-bytes * blocks-for (records cs)) room h)

@@ -1,14 +1,15 @@
 -- What it says of a converter file that nothing is refused, and the other way round.
-use mathlib.Core.Path.{_≡_, refl, sym, ap, _∙_}
+use mathlib.Core.Path.{_≡_, refl, sym, _∙_}
 use mathlib.Core.Bool.{true}
 use mathlib.Core.List.{List, [], _∷_, _++_}
 use Prim.Native.Nat.{ℕ, _*_, _≤_}
 use borrow.Author.Tests.{leb-true, le-leb, eqb-false}
+use lib.Dec.{lit<}
 use Rattle.model.specs.Judged.{all}
 use Rattle.layout.specs.Sizes.{record-bytes}
 use Rattle.layout.specs.Files.{file-count, file-records}
 use Rattle.layout.specs.Refusals.{Test, first-failing, records-right, file-size-right, file-tests, room-for-records, read-refusal}
-use Rattle.layout.proofs.FirstFailing.{passed, passes-on, refused-first, refused-later, none-first}
+use Rattle.layout.proofs.Passing.{passed, passes-on, refused-first, refused-later, none-first}
 use Rattle.layout.proofs.FileSizes.{Sized, sized, size-passes}
 use Rattle.layout.proofs.FileTests.{whole, BlocksPass, blocks-pass, passes-blocks}
 
@@ -34,12 +35,12 @@ module _ (bs : List ℕ) where
   pub file-accepted : first-failing (file-tests bs) ≡ 0 → AcceptedFile bs
   unfolding all
   file-accepted e =
-      let p = passed size-test (whole bs ++ (records-test ∷ [])) (eqb-false 1 0 refl) e in
+      let p = passed size-test (whole bs ++ (records-test ∷ [])) (lit< tt) e in
       let b = none-first (whole bs) (records-test ∷ []) (p .1) in
       record {
         size = sized bs (p .0);
         pass = blocks-pass bs b;
-        right = passed records-test [] (eqb-false 11 0 refl) (sym (refused-later (whole bs) (records-test ∷ []) refl b) ∙ p .1) .0;
+        right = passed records-test [] (lit< tt) (sym (refused-later (whole bs) (records-test ∷ []) refl b) ∙ p .1) .0;
       }
 
   -- ---- with this much room lent for the records
@@ -56,7 +57,7 @@ module _ (bs : List ℕ) where
     unfolding read-refusal
     read-accepted e =
         let f = none-first (file-tests bs) (room-for-records bs room ∷ []) e in
-        (file-accepted f, leb-true (record-bytes * file-count bs) room (passed (room-for-records bs room) [] (eqb-false 12 0 refl) (sym (read-later f) ∙ e) .0))
+        (file-accepted f, leb-true (record-bytes * file-count bs) room (passed (room-for-records bs room) [] (lit< tt) (sym (read-later f) ∙ e) .0))
 
     pub read-accepts : AcceptedFile bs → record-bytes * file-count bs ≤ room → read-refusal bs room ≡ 0
     unfolding first-failing

@@ -5,15 +5,13 @@ use mathlib.Core.List.{List, _∷_}
 use Prim.Native.Nat.{ℕ, zero, suc, _+_, _-_, _*_, _≤_, _<_}
 use native.Mathlib.Decide.{decLt}
 use native.Mathlib.Omega.{arith}
-use lib.ListN.{length, getD}
+use lib.ListN.{length}
 use lib.Seq.{ext-getD}
-use Rattle.layout.specs.declared.records.Transition.{Transition}
-use Rattle.layout.specs.declared.records.Record.{Record}
 use Rattle.layout.specs.Sizes.{side-count, place-count, record-bytes}
 use Rattle.layout.specs.Tables.{table, table-from}
-use Rattle.layout.specs.Bytes.{byte, word, event-of, part, all-zero}
+use Rattle.layout.specs.Bytes.{byte, event-of, part, all-zero}
 use Rattle.layout.specs.Records.{transition-at, record-at, node-of}
-use Rattle.layout.specs.Unused.{converter-record, unused, unused-places}
+use Rattle.layout.specs.Unused.{converter-record, unused}
 use Rattle.layout.specs.Tests.{node-right}
 use Rattle.layout.specs.Refusals.{record-right}
 use Rattle.layout.proofs.Parts.{length-part, byte-part}

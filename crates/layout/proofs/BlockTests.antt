@@ -1,15 +1,14 @@
 -- The tests of one block of a converter file (2, 3, 4 and 8), each as the facts that it is a test of.
-use mathlib.Core.Path.{_≡_, refl, sym, ap, ap₂, _∙_}
-use mathlib.Core.Bool.{Bool, true, false, _&&_, cond}
+use mathlib.Core.Path.{_≡_, refl, sym, ap, _∙_}
+use mathlib.Core.Bool.{true, _&&_, cond}
 use mathlib.Core.List.{List}
-use Prim.Native.Nat.{ℕ, _+_, _-_, _*_, _≤_, _<_}
+use Prim.Native.Nat.{ℕ, _+_, _-_, _*_, _≤_}
 use native.Mathlib.Decide.{ℕ-discrete}
 use native.Mathlib.Omega.{arith}
-use borrow.Author.Tests.{leb-true, eqb-true, le-leb, lt-leb, eq-eqb, ne-eqb}
+use borrow.Author.Tests.{leb-true, eqb-true, le-leb, eq-eqb, ne-eqb}
 use lib.Dec.{leb, eqb}
 use Rattle.model.specs.Judged.{all}
 use Rattle.layout.specs.Sizes.{record-bytes, block-records}
-use Rattle.layout.specs.Tables.{every}
 use Rattle.layout.specs.Bytes.{byte, word, part, check, all-zero}
 use Rattle.layout.specs.Blocks.{record-count, behind}
 use Rattle.layout.specs.Files.{converter-kind, file-block}
@@ -36,11 +35,10 @@ module _ (bs : List ℕ) (n k : ℕ) where
   -- ---- 3
   pub headed : header-right bs (file-block n k) ≡ true → (byte bs at ≡ converter-kind) × (word bs (at + 2) ≡ block-records * k)
   unfolding header-right
-  headed e =
-      (
-        eqb-true (byte bs at) converter-kind (and-left (eqb (byte bs at) converter-kind) (eqb (word bs (at + 2)) (block-records * k)) e),
-        eqb-true (word bs (at + 2)) (block-records * k) (and-right (eqb (byte bs at) converter-kind) (eqb (word bs (at + 2)) (block-records * k)) e),
-      )
+  headed e = (
+    eqb-true (byte bs at) converter-kind (and-left (eqb (byte bs at) converter-kind) (eqb (word bs (at + 2)) (block-records * k)) e),
+    eqb-true (word bs (at + 2)) (block-records * k) (and-right (eqb (byte bs at) converter-kind) (eqb (word bs (at + 2)) (block-records * k)) e),
+  )
 
   pub header-passes : byte bs at ≡ converter-kind → word bs (at + 2) ≡ block-records * k → header-right bs (file-block n k) ≡ true
   unfolding header-right

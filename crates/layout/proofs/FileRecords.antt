@@ -1,13 +1,11 @@
 -- The records of a file, one after the other as in memory: how many they are, and that each stands in the file as it is.
-use mathlib.Core.Path.{_≡_, refl, sym, ap, _∙_}
-use mathlib.Core.Bool.{true}
-use mathlib.Core.List.{List, _++_}
+use mathlib.Core.Path.{_≡_, sym, ap, _∙_}
+use mathlib.Core.List.{List}
 use Prim.Native.Nat.{ℕ, _+_, _*_, _/_, _%_, _≤_, _<_}
 use native.Mathlib.Omega.{arith}
-use lib.ListN.{length, take, drop}
+use lib.ListN.{length, take}
 use lib.Seq.{take-add, length-take-le}
 use Rattle.layout.specs.Sizes.{record-bytes, block-bytes, records-in-block, block-records}
-use Rattle.layout.specs.Tables.{table}
 use Rattle.layout.specs.Bytes.{byte, part, put}
 use Rattle.layout.specs.Converters.{records}
 use Rattle.layout.specs.Files.{blocks, file-count, file-place, file-records}

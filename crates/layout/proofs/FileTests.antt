@@ -1,13 +1,12 @@
 -- Refusals 2, 3, 4 and 8 of a file: found block by block, and what it says of the file that none holds.
-use mathlib.Core.Path.{_≡_, refl, sym, ap, ap₂, _∙_}
+use mathlib.Core.Path.{_≡_, refl, sym, ap, _∙_}
 use mathlib.Core.Bool.{Bool, true, false, _&&_, cond, and-comm, and-assoc}
 use mathlib.Core.List.{List, [], _∷_}
 use Prim.Native.Nat.{ℕ, suc, _+_, _-_, _*_, _≤_, _<_}
 use native.Mathlib.Numerals.{add-one}
 use native.Mathlib.Omega.{arith}
 use borrow.Author.Tests.{leb-true, le-leb, eqb-false}
-use lib.Dec.{leb}
-use lib.ListN.{length, getD}
+use lib.Dec.{lit<, leb}
 use Rattle.model.specs.Judged.{all}
 use Rattle.layout.specs.Sizes.{block-records, most-records}
 use Rattle.layout.specs.Tables.{table, every}
@@ -15,8 +14,8 @@ use Rattle.layout.specs.Blocks.{Block}
 use Rattle.layout.specs.Files.{blocks, file-block, file-blocks, file-count}
 use Rattle.layout.specs.Refusals.{Test, first-failing, check-right, header-right, count-right, unused-right, block-tests, earlier}
 use Rattle.layout.proofs.Tables.{and-left, and-right, every-true, every-at, all-true, and-unit, length-table, entry}
-use Rattle.layout.proofs.Nodes.{all-at}
-use Rattle.layout.proofs.FirstFailing.{passed}
+use Rattle.layout.proofs.Tables.{all-at}
+use Rattle.layout.proofs.Passing.{passed}
 use Rattle.layout.proofs.FileSizes.{Sized}
 use Rattle.layout.proofs.BlockTests.{counted}
 use Rattle.layout.proofs.Earlier.{row, both-first}
@@ -107,10 +106,10 @@ module _ (bs : List ℕ) where
 
   pub blocks-pass : first-failing (whole bs) ≡ 0 → BlocksPass bs
   blocks-pass e =
-      let p2 = passed record { number = 2; passes = all (check-right bs) (file-blocks bs) } _ (eqb-false 2 0 refl) e in
-      let p3 = passed record { number = 3; passes = all (header-right bs) (file-blocks bs) } _ (eqb-false 3 0 refl) (p2 .1) in
-      let p4 = passed record { number = 4; passes = all (count-right bs) (file-blocks bs) && leb (file-count bs) most-records } _ (eqb-false 4 0 refl) (p3 .1) in
-      let p8 = passed record { number = 8; passes = all (unused-right bs) (file-blocks bs) } [] (eqb-false 8 0 refl) (p4 .1) in
+      let p2 = passed record { number = 2; passes = all (check-right bs) (file-blocks bs) } _ (lit< tt) e in
+      let p3 = passed record { number = 3; passes = all (header-right bs) (file-blocks bs) } _ (lit< tt) (p2 .1) in
+      let p4 = passed record { number = 4; passes = all (count-right bs) (file-blocks bs) && leb (file-count bs) most-records } _ (lit< tt) (p3 .1) in
+      let p8 = passed record { number = 8; passes = all (unused-right bs) (file-blocks bs) } [] (lit< tt) (p4 .1) in
       record {
         checks = each (check-right bs) (p2 .0);
         headers = each (header-right bs) (p3 .0);

@@ -23,9 +23,9 @@ use Rattle.layout.specs.Sizes.{most-states, place-count, last-event}
 use Rattle.layout.specs.Tables.{every}
 use Rattle.layout.specs.Records.{no-transition, unused-transition, node-of, named, present, added}
 use Rattle.layout.specs.Tests.{in-range}
-use Rattle.layout.proofs.Tables.{and-true, and-left, and-right, all-true, every-true, every-at, length-table}
+use Rattle.layout.proofs.Tables.{and-true, and-left, and-right, all-true, all-at, every-true, every-at, length-table}
 use Rattle.layout.proofs.ConverterBytes.{names-of, edges-of, edge-of-place}
-use Rattle.layout.proofs.Nodes.{WellFormedNode, all-at, each-once}
+use Rattle.layout.proofs.Nodes.{WellFormedNode}
 
 -- ---- an addition where there is room
 module _ (made : Record) (t : Transition) (room : made .count < place-count) where
@@ -66,7 +66,7 @@ module _ (r : Record) (n : ℕ) where
     pub eight : length (made .places) ≡ place-count
     pub same : (j : ℕ) → j < k → getD (made .places) j no-transition ≡ at j
     pub right : (j : ℕ) → j < k → (all in-range (at j .events) && ltb (at j .next) n) ≡ true
-    pub once : (i j : ℕ) → i < j → j < k → at i .events ≡ at j .events → ⊥
+    pub once : (i j : ℕ) → i < k → j < k → at i .events ≡ at j .events → i ≡ j
 
   -- a right record has right transitions
   pub right-at : WellFormedNode n (node-of r) → (k : ℕ) → k < r .count → (all in-range (at k .events) && ltb (at k .next) n) ≡ true
@@ -96,6 +96,8 @@ module _ (r : Record) (n : ℕ) where
   made-more made k m h ok e =
       let room : made .count < place-count = omega (arith, m .counted) in
       let none = absent made (at k) room e in
+      let new : (i : ℕ) → i < k → at i .events ≡ at k .events → ⊥ =
+            λ i l q. not-there made (at k .events) none i (omega (arith, m .counted)) (ap (λ t. t .events) (m .same i l) ∙ q) in
       subst (λ x. Made x (k + 1)) (sym (ap (λ a. a .left) (adds made (at k) room none)))
       record {
         counted = ap (λ i. i + 1) (m .counted);
@@ -104,8 +106,9 @@ module _ (r : Record) (n : ℕ) where
             (λ j l. getD-set-other (made .places) (made .count) j (at k) no-transition (λ q. absurd (omega (arith, m .counted))) ∙ m .same j l)
             (ap (λ i. getD (set (made .places) i (at k)) k no-transition) (m .counted) ∙ getD-set-same (made .places) k (at k) no-transition (omega (arith, m .eight)));
         right = below-more (λ j. (all in-range (at j .events) && ltb (at j .next) n) ≡ true) k (m .right) ok;
-        once = λ i j l u. below-more (λ x. i < x → at i .events ≡ at x .events → ⊥) k (λ x v w. m .once i x w v)
-            (λ v q. not-there made (at k .events) none i (omega (arith, m .counted)) (ap (λ t. t .events) (m .same i v) ∙ q)) j u l;
+        once = λ i j l u. below-more (λ x. (y : ℕ) → y < k + 1 → at x .events ≡ at y .events → x ≡ y) k
+            (λ x v. below-more (λ y. at x .events ≡ at y .events → x ≡ y) k (λ y. m .once x y v) (λ q. absurd (new x v q)))
+            (below-more (λ y. at k .events ≡ at y .events → k ≡ y) k (λ y v q. absurd (new y v (sym q))) (λ q. refl)) i l j u;
       }
 
   -- a right record has no events twice, so that an addition finds none present
@@ -136,9 +139,9 @@ module _ (r : Record) (n : ℕ) where
             subst (λ x. (i : ℕ) → i < length (x .events) → InRange (getD (x .events) i tick)) (sym (edge-of-place r k l)) (λ i u.
             leb-true (natAbs (getD (at k .events) i tick)) last-event
             (all-at in-range tick (at k .events) (and-left (all in-range (at k .events)) (ltb (at k .next) n) (m .right k l)) i u));
-        once = each-once (λ k. edge (node-of r) k .events) (length (node-of r .edges)) (λ i j h l q.
-            m .once i j h (omega arith)
-            (sym (ap (λ x. x .events) (edge-of-place r i (omega arith))) ∙ q ∙ ap (λ x. x .events) (edge-of-place r j (omega arith))));
+        once = λ i j h l q.
+            m .once i j (omega arith) (omega arith)
+            (sym (ap (λ x. x .events) (edge-of-place r i (omega arith))) ∙ q ∙ ap (λ x. x .events) (edge-of-place r j (omega arith)));
         inside = λ k h.
             let l : k < r .count = omega arith in
             subst (λ x. x .next < n) (sym (edge-of-place r k l)) (ltb-true (at k .next) n (and-right (all in-range (at k .events)) (ltb (at k .next) n) (m .right k l)));

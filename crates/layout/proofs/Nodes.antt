@@ -1,24 +1,19 @@
 -- Refusal 11, of one converter state: `node-right` is the test of `WellFormedNode`, which says it by transitions and events.
-use mathlib.Core.Path.{_≡_, refl, sym, ap, _∙_}
-use mathlib.Core.Bool.{Bool, true, false, not, _&&_, false≢true}
-use mathlib.Core.List.{List, [], _∷_}
-use Prim.Native.Nat.{ℕ, zero, suc, _≤_, _<_}
-use native.Mathlib.Nat.{not-suc-le-zero}
-use native.Mathlib.Decide.{ℕ-discrete, decLt}
-use native.Mathlib.Omega.{arith}
-use borrow.Author.Tests.{ltb-true, leb-true, lt-ltb, le-leb}
-use lib.Dec.{leb, ltb}
+use mathlib.Core.Path.{_≡_, sym}
+use mathlib.Core.Bool.{Bool, true, false, _&&_}
+use Prim.Native.Nat.{ℕ, _≤_, _<_}
+use lib.Dec.{T, leb, ltb, leb→le, le→leb, ltb→lt, lt→ltb}
 use lib.IntN.{natAbs}
 use lib.ListN.{length, getD}
 use Rattle.model.specs.Events.{tick, InRange}
 use Rattle.model.specs.Converters.{Node, edge}
 use Rattle.model.specs.Judged.{all, same-events}
-use Rattle.model.proofs.Bools.{T-true, T-false}
+use Rattle.model.proofs.Bools.{T-true, T-false, and-both, both-and}
 use Rattle.model.proofs.JointMoves.{same-events-eq, eq-same-events}
 use Rattle.layout.specs.Sizes.{most-states, place-count, last-event}
 use Rattle.layout.specs.Tables.{every, distinct}
 use Rattle.layout.specs.Tests.{in-range, node-right}
-use Rattle.layout.proofs.Tables.{and-true, and-left, and-right, every-true, every-at, all-true}
+use Rattle.layout.proofs.Tables.{true-T, each-every, every-each, all-true, all-at, distinct-once, once-distinct}
 
 -- what 11 asks of a converter state, among n records
 pub record WellFormedNode (n : ℕ) (d : Node) : Type 0 where
@@ -29,86 +24,63 @@ pub record WellFormedNode (n : ℕ) (d : Node) : Type 0 where
   pub once : (j k : ℕ) → j < length (d .edges) → k < length (d .edges) → edge d j .events ≡ edge d k .events → j ≡ k
   pub inside : (k : ℕ) → k < length (d .edges) → edge d k .next < n
 
--- each element of a list that passes
-pub all-at : {A : Type 0} (p : A → Bool) (d : A) (l : List A) → all p l ≡ true → (k : ℕ) → k < length l → p (getD l k d) ≡ true
-unfolding all
-all-at p d [] e k h = absurd (not-suc-le-zero h)
-all-at p d (x ∷ l) e zero h = and-left (p x) (all p l) e
-all-at p d (x ∷ l) e (suc k) h = all-at p d l (and-right (p x) (all p l) e) k (omega arith)
-
--- a list of things of which none is the same as a later one has each once
-pub each-once : {A : Type 0} (f : ℕ → A) (m : ℕ) → ((i j : ℕ) → i < j → j < m → f i ≡ f j → ⊥) → (j k : ℕ) → j < m → k < m → f j ≡ f k → j ≡ k
-each-once f m apart j k hj hk q = by (ℕ-discrete j k) (decLt j k)
-  where
-    by : Dec (j ≡ k) → Dec (j < k) → j ≡ k
-    by (yes p) l = p
-    by (no p) (yes l) = absurd (apart j k l hk q)
-    by (no p) (no l) = absurd (apart k j (omega arith) hj (sym q))
-
 module _ (n : ℕ) (d : Node) where
   abbrev m : ℕ
   m = length (d .edges)
 
-  -- the tests in order: up to the one of the transitions' number, of the events' range, and of the events' being there once
-  abbrev counted : Bool
-  counted = all (λ s. ltb s most-states) (d .names) && leb 1 m && leb m place-count
+  -- the tests
+  abbrev named : Bool
+  named = all (λ s. ltb s most-states) (d .names)
 
   abbrev ranged : Bool
-  ranged = counted && every m (λ k. all in-range (edge d k .events))
+  ranged = every m (λ k. all in-range (edge d k .events))
 
-  abbrev single : Bool
-  single = ranged && distinct m (λ j k. same-events (edge d j .events) (edge d k .events))
+  abbrev same : ℕ → ℕ → Bool
+  same j k = same-events (edge d j .events) (edge d k .events)
 
-  -- of two transitions, one behind the other, `distinct` says that the events are not the same
-  apart : distinct m (λ j k. same-events (edge d j .events) (edge d k .events)) ≡ true → (j k : ℕ) → j < k → k < m → edge d j .events ≡ edge d k .events → ⊥
-  unfolding distinct
-  apart e j k h l q =
-      let p : not (same-events (edge d j .events) (edge d k .events)) ≡ true =
-      every-at (λ i. not (same-events (edge d i .events) (edge d k .events))) k
-      (every-at (λ b. every b (λ i. not (same-events (edge d i .events) (edge d b .events)))) m e k l) j h in
-      false≢true (sym (ap not (T-true (same-events (edge d j .events) (edge d k .events)) (eq-same-events (edge d j .events) (edge d k .events) q))) ∙ p)
+  abbrev linked : Bool
+  linked = every m (λ k. ltb (edge d k .next) n)
+
+  swap : (j k : ℕ) → T (same j k) → T (same k j)
+  swap j k t = eq-same-events (edge d k .events) (edge d j .events) (sym (same-events-eq (edge d j .events) (edge d k .events) t))
 
   pub well-formed : node-right n d ≡ true → WellFormedNode n d
   unfolding node-right
   well-formed e =
-      let e5 = and-left single (every m (λ k. ltb (edge d k .next) n)) e in
-      let e4 = and-left ranged (distinct m (λ j k. same-events (edge d j .events) (edge d k .events))) e5 in
-      let e3 = and-left counted (every m (λ k. all in-range (edge d k .events))) e4 in
-      let e2 = and-left (all (λ s. ltb s most-states) (d .names) && leb 1 m) (leb m place-count) e3 in
-      let e1 = and-left (all (λ s. ltb s most-states) (d .names)) (leb 1 m) e2 in
+      let u = and-both (named && leb 1 m && leb m place-count && ranged && distinct m same) linked (true-T (node-right n d) e) in
+      let v = and-both (named && leb 1 m && leb m place-count && ranged) (distinct m same) (u .0) in
+      let w = and-both (named && leb 1 m && leb m place-count) ranged (v .0) in
+      let x = and-both (named && leb 1 m) (leb m place-count) (w .0) in
+      let y = and-both named (leb 1 m) (x .0) in
       record {
-        names-below = λ i h. ltb-true (getD (d .names) i 0) most-states (all-at (λ s. ltb s most-states) 0 (d .names) e1 i h);
-        some-edge = leb-true 1 m (and-right (all (λ s. ltb s most-states) (d .names)) (leb 1 m) e2);
-        at-most-eight = leb-true m place-count (and-right (all (λ s. ltb s most-states) (d .names) && leb 1 m) (leb m place-count) e3);
-        in-range-at = λ k h i l. leb-true (natAbs (getD (edge d k .events) i tick)) last-event
-            (all-at in-range tick (edge d k .events) (every-at (λ j. all in-range (edge d j .events)) m (and-right counted (every m (λ j. all in-range (edge d j .events))) e4) k h) i l);
-        once = each-once (λ k. edge d k .events) m (apart (and-right ranged (distinct m (λ j k. same-events (edge d j .events) (edge d k .events))) e5));
-        inside = λ k h. ltb-true (edge d k .next) n (every-at (λ j. ltb (edge d j .next) n) m (and-right single (every m (λ j. ltb (edge d j .next) n)) e) k h);
+        names-below = λ i h. ltb→lt (getD (d .names) i 0) most-states (true-T _ (all-at (λ s. ltb s most-states) 0 (d .names) (T-true named (y .0)) i h));
+        some-edge = leb→le 1 m (y .1);
+        at-most-eight = leb→le m place-count (x .1);
+        in-range-at = λ k h i l.
+            leb→le (natAbs (getD (edge d k .events) i tick)) last-event
+            (true-T _ (all-at in-range tick (edge d k .events) (T-true (all in-range (edge d k .events)) (every-each (λ j. all in-range (edge d j .events)) m (w .1) k h)) i l));
+        once = λ j k h l q. distinct-once same swap m (v .1) j k h l (eq-same-events (edge d j .events) (edge d k .events) q);
+        inside = λ k h. ltb→lt (edge d k .next) n (every-each (λ j. ltb (edge d j .next) n) m (u .1) k h);
       }
+
+  pub node-passes : WellFormedNode n d → node-right n d ≡ true
+  unfolding node-right
+  node-passes w =
+      T-true (node-right n d)
+      (both-and (named && leb 1 m && leb m place-count && ranged && distinct m same) linked
+      (both-and (named && leb 1 m && leb m place-count && ranged) (distinct m same)
+      (both-and (named && leb 1 m && leb m place-count) ranged
+      (both-and (named && leb 1 m) (leb m place-count)
+      (both-and named (leb 1 m)
+      (true-T named (all-true (λ s. ltb s most-states) 0 (d .names) (λ i h. T-true (ltb (getD (d .names) i 0) most-states) (lt→ltb (getD (d .names) i 0) most-states (w .names-below i h)))))
+      (le→leb 1 m (w .some-edge)))
+      (le→leb m place-count (w .at-most-eight)))
+      (each-every (λ k. all in-range (edge d k .events)) m (λ k h.
+      true-T (all in-range (edge d k .events)) (all-true in-range tick (edge d k .events) (λ i l.
+      T-true (in-range (getD (edge d k .events) i tick)) (le→leb (natAbs (getD (edge d k .events) i tick)) last-event (w .in-range-at k h i l)))))))
+      (once-distinct same swap m (λ j k h l t. w .once j k h l (same-events-eq (edge d j .events) (edge d k .events) t))))
+      (each-every (λ k. ltb (edge d k .next) n) m (λ k h. lt→ltb (edge d k .next) n (w .inside k h))))
 
   -- a state that isn't well formed fails
   pub node-fails : (WellFormedNode n d → ⊥) → node-right n d ≡ false
-  node-fails f = by (node-right n d) refl
-    where
-      by : (b : Bool) → node-right n d ≡ b → b ≡ false
-      by false e = refl
-      by true e = absurd (f (well-formed e))
-
-  pub node-passes : WellFormedNode n d → node-right n d ≡ true
-  unfolding node-right distinct
-  node-passes w =
-      and-true single (every m (λ k. ltb (edge d k .next) n))
-      (and-true ranged (distinct m (λ j k. same-events (edge d j .events) (edge d k .events)))
-      (and-true counted (every m (λ k. all in-range (edge d k .events)))
-      (and-true (all (λ s. ltb s most-states) (d .names) && leb 1 m) (leb m place-count)
-      (and-true (all (λ s. ltb s most-states) (d .names)) (leb 1 m)
-      (all-true (λ s. ltb s most-states) 0 (d .names) (λ i h. lt-ltb (getD (d .names) i 0) most-states (w .names-below i h)))
-      (le-leb 1 m (w .some-edge)))
-      (le-leb m place-count (w .at-most-eight)))
-      (every-true (λ k. all in-range (edge d k .events)) m (λ k h.
-      all-true in-range tick (edge d k .events) (λ i l. le-leb (natAbs (getD (edge d k .events) i tick)) last-event (w .in-range-at k h i l)))))
-      (every-true (λ k. every k (λ j. not (same-events (edge d j .events) (edge d k .events)))) m (λ k h.
-      every-true (λ j. not (same-events (edge d j .events) (edge d k .events))) k (λ j l.
-      ap not (T-false (same-events (edge d j .events) (edge d k .events)) (λ t.
-      let q : j ≡ k = w .once j k (omega arith) h (same-events-eq (edge d j .events) (edge d k .events) t) in omega arith))))))
-      (every-true (λ k. ltb (edge d k .next) n) m (λ k h. lt-ltb (edge d k .next) n (w .inside k h)))
+  node-fails f = T-false (node-right n d) (λ t. f (well-formed (T-true (node-right n d) t)))

@@ -3,6 +3,8 @@ use mathlib.Core.Path.{_≡_, sym, ap, _∙_}
 use mathlib.Core.Bool.{cond}
 use mathlib.Core.List.{List}
 use Prim.Native.Nat.{ℕ}
+use native.Mathlib.Decide.{ℕ-discrete}
+use native.Mathlib.Omega.{arith}
 use borrow.Author.Tests.{eq-eqb, ne-eqb}
 use lib.Dec.{eqb}
 use lib.ListN.{length}
@@ -42,6 +44,21 @@ module _ (cs bs : List ℕ) where
         leaves = l ∙ none w (put bs 0 (written cs)) bs z;
       }
 
+  -- where nothing is refused, it is done; and an answer with a count says that nothing is
+  pub write-does : (after : List ℕ) (x : Written) → Writes cs bs after x → w ≡ 0 → (x ≡ Blocks (blocks-for (records cs))) × (after ≡ put bs 0 (written cs))
+  write-does after x d z =
+      (d .answers ∙ sym (none w (Blocks (blocks-for (records cs))) (Refused w) z), d .leaves ∙ sym (none w (put bs 0 (written cs)) bs z))
+
+  pub write-passed : (after : List ℕ) (n : ℕ) → Writes cs bs after (Blocks n) → w ≡ 0
+  write-passed after n d = by (ℕ-discrete w 0)
+    where
+      by : Dec (w ≡ 0) → w ≡ 0
+      by (yes z) = z
+      by (no x) =
+          let e : Blocks n ≡ Refused w = d .answers ∙ sym (some w (Blocks (blocks-for (records cs))) (Refused w) x) in
+          let z : _≡_ {A = ℕ} 0 1 = cc in
+          absurd (omega arith)
+
 module _ (bs cs : List ℕ) where
   abbrev r : ℕ
   r = read-refusal bs (length cs)
@@ -59,3 +76,17 @@ module _ (bs cs : List ℕ) where
         answers = ap read.Records e ∙ none r (read.Records (file-count bs)) (read.Refused r) z;
         leaves = l ∙ none r (put cs 0 (file-records bs)) cs z;
       }
+
+  pub read-does : (after : List ℕ) (x : Read) → Reads bs cs after x → r ≡ 0 → (x ≡ read.Records (file-count bs)) × (after ≡ put cs 0 (file-records bs))
+  read-does after x d z =
+      (d .answers ∙ sym (none r (read.Records (file-count bs)) (read.Refused r) z), d .leaves ∙ sym (none r (put cs 0 (file-records bs)) cs z))
+
+  pub read-passed : (after : List ℕ) (n : ℕ) → Reads bs cs after (read.Records n) → r ≡ 0
+  read-passed after n d = by (ℕ-discrete r 0)
+    where
+      by : Dec (r ≡ 0) → r ≡ 0
+      by (yes z) = z
+      by (no x) =
+          let e : read.Records n ≡ read.Refused r = d .answers ∙ sym (some r (read.Records (file-count bs)) (read.Refused r) x) in
+          let z : _≡_ {A = ℕ} 0 1 = cc in
+          absurd (omega arith)

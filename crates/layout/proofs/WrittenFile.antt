@@ -3,16 +3,17 @@ use mathlib.Core.Path.{_≡_, refl, sym, ap, ap₂, _∙_}
 use mathlib.Core.List.{List, _∷_, _++_, flatten}
 use Prim.Native.Nat.{ℕ, zero, suc, _+_, _-_, _*_, _≤_, _<_, min}
 use native.Mathlib.Numerals.{add-one}
-use native.Mathlib.Decide.{decLt}
+use native.Mathlib.Decide.{ℕ-discrete, decLt}
+use native.Mathlib.Nat.{not-suc-le-zero}
 use native.Mathlib.Omega.{arith}
 use lib.ListN.{length, take, drop, replicate, length-drop, length-append}
-use lib.Seq.{take-all}
+use lib.Seq.{take-all, drop-at, drop-append-le, take-append-le}
 use Rattle.layout.specs.Sizes.{record-bytes, block-records, block-record-bytes, block-bytes}
 use Rattle.layout.specs.Tables.{table, table-from}
 use Rattle.layout.specs.Bytes.{part, check, word-bytes, put}
 use Rattle.layout.specs.Blocks.{sealed}
 use Rattle.layout.specs.Converters.{records}
-use Rattle.layout.specs.Files.{converter-kind, blocks-for, written-block, written}
+use Rattle.layout.specs.Files.{converter-kind, blocks-for, written-block}
 use Rattle.layout.proofs.Parts.{length-part}
 use Rattle.layout.proofs.Put.{put-behind}
 use Rattle.layout.proofs.Pieces.{pieces-more}
@@ -21,7 +22,7 @@ use Rattle.layout.proofs.Accepted.{Accepted}
 
 module _ (cs : List ℕ) (a : Accepted cs) (k : ℕ) (h : k < blocks-for (records cs)) where
   -- how many records block k holds
-  abbrev held : ℕ
+  abbrev pub held : ℕ
   held = min block-records (records cs - block-records * k)
 
   -- and which they are
@@ -61,10 +62,10 @@ module _ (cs : List ℕ) (a : Accepted cs) (k : ℕ) (h : k < blocks-for (record
       let from = record-bytes * (block-records * k) in
       let rs = part cs from (record-bytes * held) in
       let e : l3 ≡ put (put (put bs at (converter-kind ∷ held ∷ w)) (at + 4) rs) (at + 4 + length rs) (replicate (506 - length rs) 0) =
-            e3
-            ∙ ap (λ l. put l (at + 4 + record-bytes * count) (replicate (506 - record-bytes * count) 0)) (e2 ∙ ap (λ l. put l (at + 4) (part cs from (record-bytes * count))) e1)
-            ∙ ap (λ n. put (put (put bs at (converter-kind ∷ n ∷ w)) (at + 4) (part cs from (record-bytes * n))) (at + 4 + record-bytes * n) (replicate (506 - record-bytes * n) 0)) c
-            ∙ ap (λ n. put (put (put bs at (converter-kind ∷ held ∷ w)) (at + 4) rs) (at + 4 + n) (replicate (506 - n) 0)) (sym length-block-part) in
+      e3
+      ∙ ap (λ l. put l (at + 4 + record-bytes * count) (replicate (506 - record-bytes * count) 0)) (e2 ∙ ap (λ l. put l (at + 4) (part cs from (record-bytes * count))) e1)
+      ∙ ap (λ n. put (put (put bs at (converter-kind ∷ n ∷ w)) (at + 4) (part cs from (record-bytes * n))) (at + 4 + record-bytes * n) (replicate (506 - record-bytes * n) 0)) c
+      ∙ ap (λ n. put (put (put bs at (converter-kind ∷ held ∷ w)) (at + 4) rs) (at + 4 + n) (replicate (506 - n) 0)) (sym length-block-part) in
       e4
       ∙ ap (λ l. put l (at + 510) (word-bytes (check (part l at 510)))) e
       ∙ put-sealed converter-kind held (block-records * k) rs (omega (arith, length-block-part)) bs at room
@@ -94,3 +95,24 @@ module _ (cs : List ℕ) where
         ap (λ i. put (put bs 0 (first-blocks k)) i (written-block cs k)) z
         ∙ put-behind (first-blocks k) (written-block cs k) bs 0 (block-bytes * k) (length-first-blocks k (omega arith)) (omega (arith, length-written-block cs a k h))
         ∙ ap (put bs 0) (sym (pieces-more (written-block cs) k))
+
+    -- block k among the first m
+    pub block-of : (m k : ℕ) → k < m → m ≤ blocks-for (records cs) → part (first-blocks m) (block-bytes * k) block-bytes ≡ written-block cs k
+    block-of zero k h l = absurd (not-suc-le-zero h)
+    block-of (suc m) k h l =
+        ap (λ n. part (first-blocks n) (block-bytes * k) block-bytes) (sym (add-one m))
+        ∙ ap (λ f. part f (block-bytes * k) block-bytes) (pieces-more (written-block cs) m)
+        ∙ by (ℕ-discrete k m) (λ (u : k < m). block-of m k u (omega arith))
+      where
+        by : Dec (k ≡ m) → (k < m → part (first-blocks m) (block-bytes * k) block-bytes ≡ written-block cs k)
+            → part (first-blocks m ++ written-block cs m) (block-bytes * k) block-bytes ≡ written-block cs k
+        by (yes e) rec =
+            ap (λ j. part (first-blocks m ++ written-block cs m) (block-bytes * j) block-bytes) e
+            ∙ ap (take block-bytes) (drop-at (first-blocks m) (written-block cs m) (block-bytes * m) (length-first-blocks m (omega arith)))
+            ∙ take-all block-bytes (written-block cs m) (omega (arith, length-written-block cs a m (omega arith)))
+            ∙ ap (written-block cs) (sym e)
+        by (no n) rec =
+            let f = length-first-blocks m (omega arith) in
+            ap (take block-bytes) (drop-append-le (block-bytes * k) (first-blocks m) (written-block cs m) (omega arith))
+            ∙ take-append-le block-bytes (drop (block-bytes * k) (first-blocks m)) (written-block cs m) (omega (arith, length-drop (block-bytes * k) (first-blocks m)))
+            ∙ rec (omega arith)

@@ -13,4 +13,5 @@ pub mod Converters
 pub mod Files
 pub mod Tests
 pub mod Refusals
+pub mod Counted
 pub mod Answers

@@ -22,21 +22,13 @@ use crate::records;
 use crate::records::Outcome;
 use crate::records::Record;
 use crate::records::Transition;
-use crate::sizes::COUNT_AT;
-use crate::sizes::GAP_AT;
-use crate::sizes::MOST_RECORDS;
-use crate::sizes::STATES_AT_MOST;
-use crate::sizes::PLACES;
-use crate::sizes::PLACES_AT;
-use crate::sizes::RECORD_BYTES;
-use crate::sizes::SIDES;
-use crate::sizes::TRANSITION_BYTES;
+use crate::sizes;
 
 // How many records there are.
 pub fn count(s: &[u8]) -> usize
     ensures { λ r. ⌜ r ≡ records (now (s .entry)) ⌝ }
 {
-    s.len() / RECORD_BYTES
+    s.len() / sizes::RECORD_BYTES
 }
 
 // ---- what record c holds
@@ -45,7 +37,7 @@ pub fn record(s: &[u8], c: usize) -> Record
     requires { ⌜ c < records (now s) ⌝ }
     ensures { λ r. ⌜ node-of r ≡ node (converter (now (s .entry))) c ⌝ }
 {
-    records::read_record(s, RECORD_BYTES * c)
+    records::read_record(s, sizes::RECORD_BYTES * c)
 }
 
 // The states of the sides that it names.
@@ -53,7 +45,7 @@ pub fn names(s: &[u8], c: usize) -> [u8; 2]
     requires { ⌜ c < records (now s) ⌝ }
     ensures { λ r. ⌜ r ≡ node (converter (now (s .entry))) c .names ⌝ }
 {
-    let at = RECORD_BYTES * c;
+    let at = sizes::RECORD_BYTES * c;
     [s[at], s[at + 1]]
 }
 
@@ -62,7 +54,7 @@ pub fn edge_count(s: &[u8], c: usize) -> usize
     requires { ⌜ c < records (now s) ⌝ }
     ensures { λ r. ⌜ r ≡ length (node (converter (now (s .entry))) c .edges) ⌝ }
 {
-    s[RECORD_BYTES * c + COUNT_AT] as usize
+    s[sizes::RECORD_BYTES * c + sizes::COUNT_AT] as usize
 }
 
 // Its transition k.
@@ -70,7 +62,7 @@ pub fn edge_at(s: &[u8], c: usize, k: usize) -> Transition
     requires { ⌜ (c < records (now s)) × (k < length (node (converter (now s)) c .edges)) × (k < place-count) ⌝ }
     ensures { λ r. ⌜ edge-of r ≡ edge (node (converter (now (s .entry))) c) k ⌝ }
 {
-    records::read_transition(s, RECORD_BYTES * c, k)
+    records::read_transition(s, sizes::RECORD_BYTES * c, k)
 }
 
 // ---- refusals 10 and 11
@@ -82,10 +74,10 @@ pub fn size_right(s: &[u8]) -> bool
     if s.len() == 0 {
         return false;
     }
-    if s.len() % RECORD_BYTES != 0 {
+    if s.len() % sizes::RECORD_BYTES != 0 {
         return false;
     }
-    count(s) <= MOST_RECORDS
+    count(s) <= sizes::MOST_RECORDS
 }
 
 // Whether each is a number that a state can have.
@@ -93,8 +85,8 @@ fn names_right(names: [u8; 2]) -> bool
     ensures { λ r. ⌜ r ≡ all (λ s. ltb s most-states) names ⌝ }
 {
     let mut i = 0;
-    while i < SIDES {
-        if STATES_AT_MOST <= names[i] {
+    while i < sizes::SIDES {
+        if sizes::MOST_STATES <= names[i] as usize {
             return false;
         }
         i += 1;
@@ -107,7 +99,7 @@ fn transition_right(t: Transition, n: usize) -> bool
     ensures { λ r. ⌜ r ≡ (all in-range (t .events) && ltb (t .next) n) ⌝ }
 {
     let mut i = 0;
-    while i < SIDES {
+    while i < sizes::SIDES {
         if !events::in_range(t.events[i]) {
             return false;
         }
@@ -129,7 +121,7 @@ fn node_right(r: Record, n: usize) -> bool
     if count == 0 {
         return false;
     }
-    if PLACES < count {
+    if sizes::PLACES < count {
         return false;
     }
     let mut made = Record::new(names);
@@ -160,11 +152,15 @@ pub fn record_right(s: &[u8], n: usize, at: usize) -> bool
     if !node_right(r, n) {
         return false;
     }
-    if s[at + GAP_AT] != 0 {
+    if s[at + sizes::GAP_AT] != 0 {
         return false;
     }
-    let used = TRANSITION_BYTES * (r.count as usize);
-    ranges::is_zero(s, at + PLACES_AT + used, RECORD_BYTES - PLACES_AT - used)
+    let used = sizes::TRANSITION_BYTES * (r.count as usize);
+    ranges::is_zero(
+        s,
+        at + sizes::PLACES_AT + used,
+        sizes::RECORD_BYTES - sizes::PLACES_AT - used,
+    )
 }
 
 // Whether all records are right (11).
@@ -175,7 +171,7 @@ pub fn records_right(s: &[u8]) -> bool
     let mut k = 0;
     // The first k records are right.
     while k < n {
-        if !record_right(s, n, RECORD_BYTES * k) {
+        if !record_right(s, n, sizes::RECORD_BYTES * k) {
             return false;
         }
         k += 1;

@@ -6,13 +6,30 @@ ghost use Prim.Native.Nat.{_+_, _-_, _*_, _/_, _%_, _<_, _≤_, min};
 ghost use lib.Dec.{leb};
 ghost use lib.ListN.{length};
 ghost use Rattle.layout.specs.Sizes.{
-  record-bytes, block-bytes, check-in-block, records-in-block, block-records, most-records
+  record-bytes,
+  block-bytes,
+  check-in-block,
+  records-in-block,
+  block-records,
+  most-records,
 };
 ghost use Rattle.layout.specs.Bytes.{part, check, word-bytes, put};
 ghost use Rattle.layout.specs.Converters.{records};
 ghost use Rattle.layout.specs.Files.{blocks, file-block, file-count, file-records, blocks-for, written-block, written};
 ghost use Rattle.layout.specs.Refusals.{
-  first-failing, check-right, header-right, count-right, unused-right, block-tests, earlier, converter-refusal, write-refusal, records-right, file-size-right, file-tests, read-refusal
+  first-failing,
+  check-right,
+  header-right,
+  count-right,
+  unused-right,
+  block-tests,
+  earlier,
+  converter-refusal,
+  write-refusal,
+  records-right,
+  file-size-right,
+  file-tests,
+  read-refusal,
 };
 ghost use Rattle.layout.specs.Answers.{Writes, Reads};
 use crate::answers::Read;
@@ -89,7 +106,12 @@ fn write_block(converter: &[u8], k: usize, blocks: &mut [u8])
     let behind = at + sizes::RECORDS_IN_BLOCK;
     write_header(blocks, at, sizes::CONVERTER_KIND, count as u8, first as u16);
     ranges::copy(converter, sizes::RECORD_BYTES * first, blocks, behind, used);
-    ranges::fill(blocks, behind + used, sizes::CHECK_IN_BLOCK - sizes::RECORDS_IN_BLOCK - used, 0);
+    ranges::fill(
+        blocks,
+        behind + used,
+        sizes::CHECK_IN_BLOCK - sizes::RECORDS_IN_BLOCK - used,
+        0,
+    );
     seal(blocks, at);
 }
 
@@ -288,7 +310,13 @@ fn read_records(s: &[u8], converter: &mut [u8])
     let mut j = 0;
     // The first j records are read.
     while j < n {
-        ranges::copy(s, record_place(j), converter, sizes::RECORD_BYTES * j, sizes::RECORD_BYTES);
+        ranges::copy(
+            s,
+            record_place(j),
+            converter,
+            sizes::RECORD_BYTES * j,
+            sizes::RECORD_BYTES,
+        );
         j += 1;
     }
 }

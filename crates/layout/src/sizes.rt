@@ -50,17 +50,12 @@ pub const CHECK_IN_BLOCK: usize = 510;
 pub const DESIGN_BYTES: usize = 2048;
 
 // Converters.
+pub const CONVERTER_KIND: u8 = 5;
+
 pub const BLOCK_RECORDS: usize = 14;
 
 pub const BLOCK_RECORD_BYTES: usize = 504;
 
 pub const MOST_RECORDS: usize = 65536;
 
-// The blocks that so many records fill: 4,681 full ones and one of 2 records.
 pub const MOST_BLOCKS: usize = 4682;
-
-// The kind of a block of converter records.
-pub const CONVERTER_KIND: u8 = 5;
-
-// The states of a side, as a byte.
-pub const STATES_AT_MOST: u8 = 16;

@@ -33,6 +33,9 @@ loop-holds c = (search needs, λ k h. absurd (not-suc-le-zero h))
 array-read-if1 : tie.Need-array-read-if1 Inv-loop μ-loop
 array-read-if1 c = search needs
 
+cast-if1 : tie.Need-cast-if1 Inv-loop μ-loop
+cast-if1 c = search needs
+
 returns : tie.Need-returns Inv-loop μ-loop
 returns c =
     let s = c .before .before .before in
@@ -61,6 +64,7 @@ names-right-spec =
     μ-loop
     loop-holds
     array-read-if1
+    cast-if1
     returns
     add-i
     loop-less

@@ -11,9 +11,9 @@ use lib.ListN.{length, getD}
 use Rattle.layout.specs.Sizes.{most-states}
 use Rattle.layout.specs.declared.records.Outcome.the-variants.{Added}
 use Rattle.layout.specs.Records.{no-transition, node-of}
-use Rattle.layout.proofs.Tables.{all-true}
+use Rattle.layout.proofs.Tables.{all-true, all-at}
 use Rattle.layout.proofs.ConverterBytes.{names-of, edges-of}
-use Rattle.layout.proofs.Nodes.{all-at, node-fails, node-passes}
+use Rattle.layout.proofs.Nodes.{node-fails, node-passes}
 use Rattle.layout.proofs.Made.{Made, adds, right-at, made-none, made-more, made-once, made-all}
 use Rattle.layout.proofs.converters.node_right.Statement.{statement}
 use Rattle.layout.proofs.converters.node_right.Tie as tie

@@ -7,12 +7,6 @@ use Rattle.layout.specs.Refusals.{first-failing, check-right, header-rig
 use borrow.Author.Needs.{needs}
 use Rattle.layout.proofs.files.block_refusal.Statement.{statement}
 use Rattle.layout.proofs.files.block_refusal.Tie as tie
-use Rattle.layout.proofs.files.block_refusal.Reads as reads
-use Rattle.layout.proofs.files.block_refusal.Lts as lts
-use Rattle.layout.proofs.files.check_right.Reads as check-right-reads
-use Rattle.layout.proofs.files.count_right.Reads as count-right-reads
-use Rattle.layout.proofs.files.header_right.Reads as header-right-reads
-use Rattle.layout.proofs.files.unused_right.Reads as unused-right-reads
 
 -- the tests that passed
 first : (c : tie.Else1) → check-right (c .before .before .before .args .s .now) (file-block (c .before .before .before .args .n) (c .before .before .before .args .k)) ≡ true

@@ -5,10 +5,6 @@ use Rattle.layout.specs.Refusals.{check-right}
 use borrow.Author.Needs.{needs}
 use Rattle.layout.proofs.files.check_right.Statement.{statement}
 use Rattle.layout.proofs.files.check_right.Tie as tie
-use Rattle.layout.proofs.files.check_right.Reads as reads
-use Rattle.layout.proofs.files.check_right.Lts as lts
-use Rattle.layout.proofs.ranges.check_of.Reads as check-of-reads
-use Rattle.layout.proofs.words.read_word.Reads as read-word-reads
 
 mul-at : tie.Need-mul-at
 mul-at c = search needs

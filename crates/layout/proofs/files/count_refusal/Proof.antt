@@ -1,15 +1,10 @@
 -- `files::count_refusal` meets its contract.
-use mathlib.Core.Path.{sym, ap, _∙_}
-use mathlib.Core.Bool.{cond}
 use native.Mathlib.Omega.{arith}
 use borrow.Author.Tests.{le-leb, lt-leb}
 use Rattle.layout.specs.Files.{file-count}
 use borrow.Author.Needs.{needs}
 use Rattle.layout.proofs.files.count_refusal.Statement.{statement}
 use Rattle.layout.proofs.files.count_refusal.Tie as tie
-use Rattle.layout.proofs.files.count_refusal.Reads as reads
-use Rattle.layout.proofs.files.count_refusal.Lts as lts
-use Rattle.layout.proofs.files.record_count.Reads as record-count-reads
 
 record-count-requires : tie.Need-record-count-requires
 record-count-requires c κs = search needs

@@ -11,8 +11,6 @@ use Rattle.layout.proofs.BlockTests.{last-count, full-count}
 use borrow.Author.Needs.{needs}
 use Rattle.layout.proofs.files.count_right.Statement.{statement}
 use Rattle.layout.proofs.files.count_right.Tie as tie
-use Rattle.layout.proofs.files.count_right.Reads as reads
-use Rattle.layout.proofs.files.count_right.Lts as lts
 
 mul-count : tie.Need-mul-count
 mul-count c = search needs

@@ -4,8 +4,6 @@ use borrow.Author.Tests.{eq-eqb, ne-eqb}
 use Rattle.layout.specs.Refusals.{earlier}
 use Rattle.layout.proofs.files.earlier.Statement.{statement}
 use Rattle.layout.proofs.files.earlier.Tie as tie
-use Rattle.layout.proofs.files.earlier.Reads as reads
-use Rattle.layout.proofs.files.earlier.Lts as lts
 
 returns : tie.Need-returns
 unfolding earlier

@@ -1,24 +1,19 @@
 -- `files::file_records_right` meets its contract. The invariant: the first j records are right.
-use mathlib.Core.Path.{_≡_, refl, sym, ap, ap₂, _∙_}
+use mathlib.Core.Path.{_≡_, sym, ap₂, _∙_}
 use mathlib.Core.Bool.{true}
-use Prim.Native.Nat.{ℕ, _+_, _-_, _*_, _<_, _≤_}
+use Prim.Native.Nat.{ℕ, _-_, _*_, _<_, _≤_}
 use native.Mathlib.Nat.{not-suc-le-zero}
 use native.Mathlib.Omega.{arith}
 use borrow.Author.Count.{below-more}
 use borrow.Author.Needs.{needs}
 use borrow.Author.Tests.{not-true, not-false}
 use Rattle.layout.specs.Converters.{records}
-use Rattle.layout.specs.Files.{file-count, file-records}
+use Rattle.layout.specs.Files.{file-records}
 use Rattle.layout.specs.Refusals.{record-right, records-right}
 use Rattle.layout.proofs.Tables.{every-true, every-false}
-use Rattle.layout.proofs.FileRecords.{place, records-file, place-fits, record-right-at}
+use Rattle.layout.proofs.FileRecords.{records-file, place-fits, record-right-at}
 use Rattle.layout.proofs.files.file_records_right.Statement.{statement}
 use Rattle.layout.proofs.files.file_records_right.Tie as tie
-use Rattle.layout.proofs.files.file_records_right.Reads as reads
-use Rattle.layout.proofs.files.file_records_right.Lts as lts
-use Rattle.layout.proofs.converters.record_right.Reads as record-right-reads
-use Rattle.layout.proofs.files.record_count.Reads as record-count-reads
-use Rattle.layout.proofs.files.record_place.Reads as record-place-reads
 
 abbrev Inv-loop : tie.InvT-loop
 Inv-loop s n j₀ j = (j ≤ n) × ((i : ℕ) → i < j → record-right (file-records s) (records (file-records s)) (36 * i) ≡ true)

@@ -2,26 +2,18 @@
 use mathlib.Core.Path.{_≡_, refl, sym, ap, ap₂, _∙_}
 use mathlib.Core.Bool.{true, cond}
 use mathlib.Core.List.{List, [], _∷_, _++_}
-use Prim.Native.Nat.{ℕ, _+_, _-_, _*_, _<_, _≤_}
+use Prim.Native.Nat.{ℕ, _-_, _≤_}
 use native.Mathlib.Omega.{arith}
 use borrow.Author.Needs.{needs}
 use borrow.Author.Tests.{not-true, not-false}
 use Rattle.model.specs.Judged.{all}
 use Rattle.layout.specs.Files.{blocks, file-block, file-records}
 use Rattle.layout.specs.Refusals.{Test, first-failing, block-tests, earlier, file-size-right, records-right, file-tests}
-use Rattle.layout.proofs.FirstFailing.{passes-on, refused-first, refused-later}
-use Rattle.layout.proofs.FileSizes.{Sized, sized}
-use Rattle.layout.proofs.FileTests.{so-far, start, next, whole, end, BlocksPass, blocks-pass, count-fits}
+use Rattle.layout.proofs.Passing.{passes-on, refused-first, refused-later}
+use Rattle.layout.proofs.FileSizes.{sized}
+use Rattle.layout.proofs.FileTests.{so-far, start, next, whole, end, blocks-pass, count-fits}
 use Rattle.layout.proofs.files.file_refusal.Statement.{statement}
 use Rattle.layout.proofs.files.file_refusal.Tie as tie
-use Rattle.layout.proofs.files.file_refusal.Reads as reads
-use Rattle.layout.proofs.files.file_refusal.Lts as lts
-use Rattle.layout.proofs.files.block_count.Reads as block-count-reads
-use Rattle.layout.proofs.files.block_refusal.Reads as block-refusal-reads
-use Rattle.layout.proofs.files.count_refusal.Reads as count-refusal-reads
-use Rattle.layout.proofs.files.earlier.Reads as earlier-reads
-use Rattle.layout.proofs.files.file_records_right.Reads as file-records-right-reads
-use Rattle.layout.proofs.files.file_size_right.Reads as file-size-right-reads
 
 abbrev Inv-loop : tie.InvT-loop
 Inv-loop s n first₀ k₀ first k = (k ≤ n) × (first ≡ first-failing (so-far s k))

@@ -7,9 +7,6 @@ use Rattle.layout.specs.Refusals.{file-size-right}
 use borrow.Author.Needs.{needs}
 use Rattle.layout.proofs.files.file_size_right.Statement.{statement}
 use Rattle.layout.proofs.files.file_size_right.Tie as tie
-use Rattle.layout.proofs.files.file_size_right.Reads as reads
-use Rattle.layout.proofs.files.file_size_right.Lts as lts
-use Rattle.layout.proofs.files.block_count.Reads as block-count-reads
 
 returns : tie.Need-returns
 unfolding file-size-right

@@ -1,5 +1,5 @@
 -- `files::header_right` meets its contract.
-use mathlib.Core.Path.{_≡_, ap, _∙_}
+use mathlib.Core.Path.{ap, _∙_}
 use borrow.Author.Tests.{eq-eqb, ne-eqb}
 use Prim.Native.Nat.{_*_}
 use lib.Dec.{eqb}
@@ -8,9 +8,6 @@ use Rattle.layout.specs.Refusals.{header-right}
 use borrow.Author.Needs.{needs}
 use Rattle.layout.proofs.files.header_right.Statement.{statement}
 use Rattle.layout.proofs.files.header_right.Tie as tie
-use Rattle.layout.proofs.files.header_right.Reads as reads
-use Rattle.layout.proofs.files.header_right.Lts as lts
-use Rattle.layout.proofs.words.read_word.Reads as read-word-reads
 
 mul-at : tie.Need-mul-at
 mul-at c = search needs

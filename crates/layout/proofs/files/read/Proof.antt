@@ -11,11 +11,6 @@ use Rattle.layout.proofs.Outcomes.{read-refused, read-done}
 use borrow.Author.Needs.{needs}
 use Rattle.layout.proofs.files.read.Statement.{statement}
 use Rattle.layout.proofs.files.read.Tie as tie
-use Rattle.layout.proofs.files.read.Reads as reads
-use Rattle.layout.proofs.files.read.Lts as lts
-use Rattle.layout.proofs.files.read_records.Reads as read-records-reads
-use Rattle.layout.proofs.files.read_refusal.Reads as read-refusal-reads
-use Rattle.layout.proofs.files.record_count.Reads as record-count-reads
 
 passes : (c : tie.Else1) → read-refusal (c .before .before .before .before .args .blocks .now) (length (c .before .before .before .before .args .converter .now)) ≡ 0
 passes c = sym (c .before .read-refusal .ensures) ∙ c .if1 .left

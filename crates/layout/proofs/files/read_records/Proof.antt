@@ -1,21 +1,16 @@
 -- `files::read_records` meets its contract. The invariant: the first j records are put.
-use mathlib.Core.Path.{_≡_, refl, sym, ap, ap₂, _∙_}
-use Prim.Native.Nat.{ℕ, _+_, _-_, _*_, _<_, _≤_}
+use mathlib.Core.Path.{_≡_, sym, ap, ap₂, _∙_}
+use Prim.Native.Nat.{_-_, _*_, _≤_}
 use native.Mathlib.Omega.{arith}
 use borrow.Author.Needs.{needs}
 use lib.ListN.{length, take}
 use lib.Seq.{take-all, length-take-le}
 use Rattle.layout.specs.Bytes.{part, put}
-use Rattle.layout.specs.Files.{file-count, file-records}
+use Rattle.layout.specs.Files.{file-records}
 use Rattle.layout.proofs.Put.{put-nil, length-put}
 use Rattle.layout.proofs.FileRecords.{length-file-records, place-fits, put-next-record}
 use Rattle.layout.proofs.files.read_records.Statement.{statement}
 use Rattle.layout.proofs.files.read_records.Tie as tie
-use Rattle.layout.proofs.files.read_records.Reads as reads
-use Rattle.layout.proofs.files.read_records.Lts as lts
-use Rattle.layout.proofs.files.record_count.Reads as record-count-reads
-use Rattle.layout.proofs.files.record_place.Reads as record-place-reads
-use Rattle.layout.proofs.ranges.copy.Reads as copy-reads
 
 abbrev Inv-loop : tie.InvT-loop
 Inv-loop s converter₀ n j₀ converter j = (j ≤ n) × (converter ≡ put converter₀ 0 (take (36 * j) (file-records s)))

@@ -1,6 +1,6 @@
 -- `files::read_refusal` meets its contract: the file's own refusals first, and then 12.
 use mathlib.Core.Path.{_≡_, sym, ap, _∙_}
-use mathlib.Core.Bool.{true, cond}
+use mathlib.Core.Bool.{cond}
 use Prim.Native.Nat.{_*_}
 use native.Mathlib.Omega.{arith}
 use borrow.Author.Tests.{le-leb, lt-leb}
@@ -11,10 +11,6 @@ use Rattle.layout.proofs.AcceptedFiles.{AcceptedFile, file-accepted, re
 use borrow.Author.Needs.{needs}
 use Rattle.layout.proofs.files.read_refusal.Statement.{statement}
 use Rattle.layout.proofs.files.read_refusal.Tie as tie
-use Rattle.layout.proofs.files.read_refusal.Reads as reads
-use Rattle.layout.proofs.files.read_refusal.Lts as lts
-use Rattle.layout.proofs.files.file_refusal.Reads as file-refusal-reads
-use Rattle.layout.proofs.files.record_count.Reads as record-count-reads
 
 none : (c : tie.Else1) → first-failing (file-tests (c .before .before .before .args .s .now)) ≡ 0
 none c = sym (c .before .file-refusal .ensures) ∙ c .if1 .left

@@ -1,16 +1,13 @@
 -- `files::record_count` meets its contract: full blocks, and the count of the last.
-use mathlib.Core.Path.{_≡_, ap, _∙_}
+use mathlib.Core.Path.{ap}
 use Prim.Native.Nat.{_+_, _-_, _*_}
 use native.Mathlib.Omega.{arith}
 use Rattle.layout.specs.Bytes.{byte}
 use Rattle.layout.specs.Files.{file-count}
-use Rattle.layout.proofs.FileSizes.{Sized, sized}
+use Rattle.layout.proofs.FileSizes.{sized}
 use borrow.Author.Needs.{needs}
 use Rattle.layout.proofs.files.record_count.Statement.{statement}
 use Rattle.layout.proofs.files.record_count.Tie as tie
-use Rattle.layout.proofs.files.record_count.Reads as reads
-use Rattle.layout.proofs.files.record_count.Lts as lts
-use Rattle.layout.proofs.files.block_count.Reads as block-count-reads
 
 block-count-requires : tie.Need-block-count-requires
 block-count-requires c κs = search needs

@@ -1,14 +1,10 @@
 -- `files::seal` meets its contract.
-use mathlib.Core.Path.{_≡_, sym, ap, _∙_}
+use mathlib.Core.Path.{ap, _∙_}
 use Prim.Native.Nat.{_+_}
 use Rattle.layout.specs.Bytes.{put, word-bytes}
 use borrow.Author.Needs.{needs}
 use Rattle.layout.proofs.files.seal.Statement.{statement}
 use Rattle.layout.proofs.files.seal.Tie as tie
-use Rattle.layout.proofs.files.seal.Reads as reads
-use Rattle.layout.proofs.files.seal.Lts as lts
-use Rattle.layout.proofs.ranges.check_of.Reads as check-of-reads
-use Rattle.layout.proofs.words.write_word.Reads as write-word-reads
 
 check-of-requires : tie.Need-check-of-requires
 check-of-requires c κs = search needs

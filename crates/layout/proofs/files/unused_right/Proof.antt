@@ -3,13 +3,10 @@ use mathlib.Core.Path.{sym, _∙_}
 use Prim.Native.Nat.{_+_, _*_, _≤_}
 use native.Mathlib.Omega.{arith}
 use Rattle.layout.specs.Bytes.{byte}
-use Rattle.layout.proofs.BlockTests.{Counted, counted, unused-behind}
+use Rattle.layout.proofs.BlockTests.{counted, unused-behind}
 use borrow.Author.Needs.{needs}
 use Rattle.layout.proofs.files.unused_right.Statement.{statement}
 use Rattle.layout.proofs.files.unused_right.Tie as tie
-use Rattle.layout.proofs.files.unused_right.Reads as reads
-use Rattle.layout.proofs.files.unused_right.Lts as lts
-use Rattle.layout.proofs.ranges.is_zero.Reads as is-zero-reads
 
 -- it holds at most fourteen records
 most : (c : tie.After-shared-slice-known2) → byte (c .before .before .args .s .now) (512 * c .before .before .args .k + 1) ≤ 14

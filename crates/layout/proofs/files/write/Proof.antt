@@ -9,12 +9,6 @@ use Rattle.layout.proofs.Outcomes.{write-refused, write-done}
 use borrow.Author.Needs.{needs}
 use Rattle.layout.proofs.files.write.Statement.{statement}
 use Rattle.layout.proofs.files.write.Tie as tie
-use Rattle.layout.proofs.files.write.Reads as reads
-use Rattle.layout.proofs.files.write.Lts as lts
-use Rattle.layout.proofs.converters.count.Reads as count-reads
-use Rattle.layout.proofs.files.blocks_for.Reads as blocks-for-reads
-use Rattle.layout.proofs.files.write_blocks.Reads as write-blocks-reads
-use Rattle.layout.proofs.files.write_refusal.Reads as write-refusal-reads
 
 passes : (c : tie.Else1) → write-refusal (c .before .before .before .before .args .converter .now) (length (c .before .before .before .before .args .blocks .now)) ≡ 0
 passes c = sym (c .before .write-refusal .ensures) ∙ c .if1 .left

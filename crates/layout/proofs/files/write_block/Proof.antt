@@ -1,20 +1,12 @@
 -- `files::write_block` meets its contract: header, records, zeros and check.
-use mathlib.Core.Path.{_≡_, ap, _∙_}
-use Prim.Native.Nat.{ℕ, _-_, _*_, min}
+use mathlib.Core.Path.{ap, _∙_}
+use Prim.Native.Nat.{_-_, _*_, min}
 use native.Mathlib.Omega.{arith}
 use Rattle.layout.proofs.Accepted.{accepted}
 use Rattle.layout.proofs.WrittenFile.{put-block}
 use borrow.Author.Needs.{needs}
 use Rattle.layout.proofs.files.write_block.Statement.{statement}
 use Rattle.layout.proofs.files.write_block.Tie as tie
-use Rattle.layout.proofs.files.write_block.Reads as reads
-use Rattle.layout.proofs.files.write_block.Lts as lts
-use Rattle.layout.proofs.converters.count.Reads as count-reads
-use Rattle.layout.proofs.files.count_in_block.Reads as count-in-block-reads
-use Rattle.layout.proofs.files.seal.Reads as seal-reads
-use Rattle.layout.proofs.files.write_header.Reads as write-header-reads
-use Rattle.layout.proofs.ranges.copy.Reads as copy-reads
-use Rattle.layout.proofs.ranges.fill.Reads as fill-reads
 
 mul-at : tie.Need-mul-at
 mul-at c = search needs

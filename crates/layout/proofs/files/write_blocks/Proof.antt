@@ -1,7 +1,7 @@
 -- `files::write_blocks` meets its contract. The invariant: the first k blocks are put.
-use mathlib.Core.Path.{_≡_, refl, sym, ap, _∙_}
+use mathlib.Core.Path.{_≡_, sym, ap, _∙_}
 use mathlib.Core.List.{flatten}
-use Prim.Native.Nat.{ℕ, _+_, _-_, _*_, _<_, _≤_}
+use Prim.Native.Nat.{_-_, _*_, _≤_}
 use native.Mathlib.Omega.{arith}
 use borrow.Author.Needs.{needs}
 use lib.ListN.{length}
@@ -14,11 +14,6 @@ use Rattle.layout.proofs.Accepted.{Accepted, accepted, write-accepted}
 use Rattle.layout.proofs.WrittenFile.{first-blocks, length-first-blocks, put-next-block}
 use Rattle.layout.proofs.files.write_blocks.Statement.{statement}
 use Rattle.layout.proofs.files.write_blocks.Tie as tie
-use Rattle.layout.proofs.files.write_blocks.Reads as reads
-use Rattle.layout.proofs.files.write_blocks.Lts as lts
-use Rattle.layout.proofs.converters.count.Reads as count-reads
-use Rattle.layout.proofs.files.blocks_for.Reads as blocks-for-reads
-use Rattle.layout.proofs.files.write_block.Reads as write-block-reads
 
 abbrev Inv-loop : tie.InvT-loop
 Inv-loop converter blocks₀ n k₀ blocks k = (k ≤ n) × (blocks ≡ put blocks₀ 0 (first-blocks converter k))

@@ -3,15 +3,12 @@ use mathlib.Core.Path.{refl, ap, _∙_}
 use mathlib.Core.List.{[], _∷_}
 use Prim.Native.Nat.{_+_}
 use native.Mathlib.Omega.{arith}
-use lib.ListN.{length, length-set}
+use lib.ListN.{length-set}
 use Rattle.layout.specs.Bytes.{put, word-bytes}
-use Rattle.layout.proofs.Put.{put-pair, put-behind, length-put}
+use Rattle.layout.proofs.Put.{put-pair, put-behind}
 use borrow.Author.Needs.{needs}
 use Rattle.layout.proofs.files.write_header.Statement.{statement}
 use Rattle.layout.proofs.files.write_header.Tie as tie
-use Rattle.layout.proofs.files.write_header.Reads as reads
-use Rattle.layout.proofs.files.write_header.Lts as lts
-use Rattle.layout.proofs.words.write_word.Reads as write-word-reads
 
 slice-write-s : tie.Need-slice-write-s
 slice-write-s c = search needs

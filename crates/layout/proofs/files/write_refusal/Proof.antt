@@ -5,21 +5,15 @@ use mathlib.Core.List.{[], _∷_}
 use Prim.Native.Nat.{_*_}
 use native.Mathlib.Omega.{arith}
 use borrow.Author.Tests.{le-leb, lt-leb}
-use lib.Dec.{leb}
 use Rattle.model.specs.Judged.{all}
 use Rattle.layout.specs.Converters.{records}
 use Rattle.layout.specs.Files.{blocks-for}
 use Rattle.layout.specs.Refusals.{first-failing, converter-tests, converter-refusal, room-for-blocks, write-refusal}
-use Rattle.layout.proofs.FirstFailing.{refused-first, refused-later}
+use Rattle.layout.proofs.Passing.{refused-first, refused-later}
 use Rattle.layout.proofs.Accepted.{accepted}
 use borrow.Author.Needs.{needs}
 use Rattle.layout.proofs.files.write_refusal.Statement.{statement}
 use Rattle.layout.proofs.files.write_refusal.Tie as tie
-use Rattle.layout.proofs.files.write_refusal.Reads as reads
-use Rattle.layout.proofs.files.write_refusal.Lts as lts
-use Rattle.layout.proofs.converters.converter_refusal.Reads as converter-refusal-reads
-use Rattle.layout.proofs.converters.count.Reads as count-reads
-use Rattle.layout.proofs.files.blocks_for.Reads as blocks-for-reads
 
 -- where 10 and 11 refuse nothing, 12 answers
 none : (c : tie.Else1) → converter-refusal (c .before .before .before .args .converter .now) ≡ 0
