@@ -1,7 +1,11 @@
 -- The theorem to read first is `WellFormed`: a design that passes tests 1 to 8 is well formed in the model's sense. The rest is what proofs of functions cite.
 pub mod Tables
 pub mod AnyOf
+pub mod CountedBytes
+pub mod DesignBlocks
 pub mod DesignBytes
+pub mod DesignFormulas
+pub mod DesignUnused
 pub mod JointLaws
 pub mod JointMoves
 pub mod KindTests
@@ -12,6 +16,7 @@ pub mod ShowDigits
 pub mod SignedBytes
 pub mod StateMoves
 pub mod RecordBytes
+pub mod StateRecords
 pub mod StateTests
 pub mod FormulaRecords
 pub mod FormulaTests

@@ -1,5 +1,5 @@
--- A list of tests that refuses nothing: each test passes.
-use mathlib.Core.Path.{_≡_}
+-- A list of tests, from the first to the last: where nothing is refused each test passes.
+use mathlib.Core.Path.{_≡_, ap}
 use mathlib.Core.Bool.{Bool, true, false, cond}
 use mathlib.Core.List.{List, _∷_}
 use Prim.Native.Nat.{ℕ, _<_}
@@ -15,3 +15,12 @@ at-first false n m h e = absurd (omega arith)
 pub passes : (t : Test) (ts : List Test) → 0 < t .number → first-failing (t ∷ ts) ≡ 0 → T (t .passes) × (first-failing ts ≡ 0)
 unfolding first-failing
 passes t ts h e = at-first (t .passes) (t .number) (first-failing ts) h e
+
+-- a test that passes leaves the answer to the rest, and one that fails gives its number
+pub passes-on : (t : Test) (ts : List Test) → t .passes ≡ true → first-failing (t ∷ ts) ≡ first-failing ts
+unfolding first-failing
+passes-on t ts e = ap (λ b. cond b (first-failing ts) (t .number)) e
+
+pub stops-at : (t : Test) (ts : List Test) → t .passes ≡ false → first-failing (t ∷ ts) ≡ t .number
+unfolding first-failing
+stops-at t ts e = ap (λ b. cond b (first-failing ts) (t .number)) e

@@ -1,5 +1,6 @@
 // Bytes: designs, converters and blocks, with every refusal in its order. Offsets stand here and nowhere above.
 pub mod blocks;
+pub mod design_tests;
 pub mod designs;
 pub mod events;
 pub mod formulas;
