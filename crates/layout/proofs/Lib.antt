@@ -2,7 +2,11 @@
 -- written is read back the same, and only such files are read. The rest is what proofs of functions cite.
 pub mod Tables
 pub mod AnyOf
+pub mod CountedBytes
+pub mod DesignBlocks
 pub mod DesignBytes
+pub mod DesignFormulas
+pub mod DesignUnused
 pub mod JointLaws
 pub mod JointMoves
 pub mod KindTests
@@ -13,6 +17,7 @@ pub mod ShowDigits
 pub mod SignedBytes
 pub mod StateMoves
 pub mod RecordBytes
+pub mod StateRecords
 pub mod StateTests
 pub mod FormulaRecords
 pub mod FormulaTests

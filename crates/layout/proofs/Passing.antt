@@ -29,6 +29,11 @@ pub passes-on : (t : Test) (ts : List Test) → t .passes ≡ true → first-fai
 unfolding first-failing
 passes-on t ts p = ap (λ x. cond x (first-failing ts) (t .number)) p
 
+-- and one that fails gives its number
+pub stops-at : (t : Test) (ts : List Test) → t .passes ≡ false → first-failing (t ∷ ts) ≡ t .number
+unfolding first-failing
+stops-at t ts e = ap (λ b. cond b (first-failing ts) (t .number)) e
+
 -- ---- one list behind another
 -- a refusal by the first list is the answer
 pub refused-first : (ts us : List Test) → (first-failing ts ≡ 0 → ⊥) → first-failing (ts ++ us) ≡ first-failing ts

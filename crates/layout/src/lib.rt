@@ -2,6 +2,7 @@
 pub mod answers;
 pub mod blocks;
 pub mod converters;
+pub mod design_tests;
 pub mod designs;
 pub mod events;
 pub mod files;
