@@ -57,26 +57,22 @@ carried Ss R ok ss (c ∷ cs) h =
 
 -- ---- every run, of a design that isn't refused
 module _ (d : List ℕ) (right : design-refusal d ≡ 0) where
-  -- the sides of the design
-  abbrev sides : List Side
-  sides = design d .sides
-
-  regular : AllRegular sides
-  regular = all-regular sides (well-formed d right .each-side)
+  regular : AllRegular (design d .sides)
+  regular = all-regular (design d .sides) (well-formed d right .each-side)
 
   -- From any record that is there and names the states of the plain sides, over any matched converter that isn't refused.
-  pub every-run : (R : Running) → converter-refusal (R .converter) ≡ 0 → Matched sides (converter (R .converter)) → (ss : List ℕ) → InStep (running-of R) ss → (calls : List Call) → RunRight sides R ss calls
-  every-run R ok m ss h calls = carried sides R ok ss calls (model-runs.every-run sides regular (running-of R) m ss h (map call-of calls))
+  pub every-run : (R : Running) → converter-refusal (R .converter) ≡ 0 → Matched (design d .sides) (converter (R .converter)) → (ss : List ℕ) → InStep (running-of R) ss → (calls : List Call) → RunRight (design d .sides) R ss calls
+  every-run R ok m ss h calls = carried (design d .sides) R ok ss calls (model-runs.every-run (design d .sides) regular (running-of R) m ss h (map call-of calls))
 
   -- From record 0 with any delivered events, and every plain side in state 0.
-  pub every-run-from-start : (cs : List ℕ) → converter-refusal cs ≡ 0 → Matched sides (converter cs) → (x y : Event) (calls : List Call)
-      → RunRight sides (record { converter = cs; runner = record { «record» = 0; first = x; second = y } }) (zeros sides) calls
+  pub every-run-from-start : (cs : List ℕ) → converter-refusal cs ≡ 0 → Matched (design d .sides) (converter cs) → (x y : Event) (calls : List Call)
+      → RunRight (design d .sides) (record { converter = cs; runner = record { «record» = 0; first = x; second = y } }) (zeros (design d .sides)) calls
   every-run-from-start cs ok m x y calls =
-      every-run (record { converter = cs; runner = record { «record» = 0; first = x; second = y } }) ok m (zeros sides) (record { there = m .some-node; names = m .starts }) calls
+      every-run (record { converter = cs; runner = record { «record» = 0; first = x; second = y } }) ok m (zeros (design d .sides)) (record { there = m .some-node; names = m .starts }) calls
 
   -- The same of the first n records of a table, which is what a search promises of its answer n.
   pub every-run-of-found : (table : List ℕ) (n : ℕ) → converter-refusal (take (record-bytes * n) table) ≡ 0 → Works (design d) (converter (take (record-bytes * n) table)) → (x y : Event) (calls : List Call)
-      → RunRight sides (record { converter = take (record-bytes * n) table; runner = record { «record» = 0; first = x; second = y } }) (zeros sides) calls
+      → RunRight (design d .sides) (record { converter = take (record-bytes * n) table; runner = record { «record» = 0; first = x; second = y } }) (zeros (design d .sides)) calls
   every-run-of-found table n ok w x y calls = every-run-from-start (take (record-bytes * n) table) ok (w .matched) x y calls
 
 -- ---- one tick
