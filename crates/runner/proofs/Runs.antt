@@ -10,7 +10,7 @@ use Rattle.model.specs.Events.{Event}
 use Rattle.model.specs.Sides.{Side}
 use Rattle.model.specs.Joined.{zeros}
 use Rattle.model.specs.Converters.{node, Matched}
-use Rattle.model.specs.Designs.{WellFormed, Works}
+use Rattle.model.specs.Designs.{Works}
 use Rattle.model.specs.Runs as model
 use Rattle.model.specs.Runs.{moved, AllAllow, AllDelivered, InStep}
 use Rattle.model.proofs.Joint.{AllRegular, all-regular}
@@ -18,9 +18,10 @@ use Rattle.model.proofs.Runs as model-runs
 use Rattle.layout.specs.Sizes.{record-bytes}
 use Rattle.layout.specs.Designs.{design}
 use Rattle.layout.specs.Converters.{records, converter}
-use Rattle.layout.specs.Refusals.{records-right, converter-refusal}
+use Rattle.layout.specs.Refusals.{design-refusal, records-right, converter-refusal}
 use Rattle.layout.proofs.Accepted.{accepted, converter-length}
 use Rattle.layout.proofs.FirstFailing.{passed}
+use Rattle.layout.proofs.WellFormed.{well-formed}
 use Rattle.runner.specs.declared.Runner.{Runner}
 use Rattle.runner.specs.declared.Answer.{Answer}
 use Rattle.runner.specs.declared.Answer.the-variants.{Done, Refused}
@@ -54,28 +55,24 @@ carried Ss R ok ss (c ∷ cs) h =
     × model.RunRight Ss (k .running) (model.plain Ss ss (call-of c) (k .answer) (k .running .runner .delivered)) (map call-of cs)) (sym e) (h .1, h .2) in
     (h .0, k .0, carried Ss (called R c .running) (ap converter-refusal (still-lent R c) ∙ ok) _ cs (k .1))
 
--- ---- every run
-module _ (d : List ℕ) (formed : WellFormed (design d)) where
-  -- the sides of the design
-  abbrev sides : List Side
-  sides = design d .sides
-
-  regular : AllRegular sides
-  regular = all-regular sides (formed .each-side)
+-- ---- every run, of a design that isn't refused
+module _ (d : List ℕ) (right : design-refusal d ≡ 0) where
+  regular : AllRegular (design d .sides)
+  regular = all-regular (design d .sides) (well-formed d right .each-side)
 
   -- From any record that is there and names the states of the plain sides, over any matched converter that isn't refused.
-  pub every-run : (R : Running) → converter-refusal (R .converter) ≡ 0 → Matched sides (converter (R .converter)) → (ss : List ℕ) → InStep (running-of R) ss → (calls : List Call) → RunRight sides R ss calls
-  every-run R ok m ss h calls = carried sides R ok ss calls (model-runs.every-run sides regular (running-of R) m ss h (map call-of calls))
+  pub every-run : (R : Running) → converter-refusal (R .converter) ≡ 0 → Matched (design d .sides) (converter (R .converter)) → (ss : List ℕ) → InStep (running-of R) ss → (calls : List Call) → RunRight (design d .sides) R ss calls
+  every-run R ok m ss h calls = carried (design d .sides) R ok ss calls (model-runs.every-run (design d .sides) regular (running-of R) m ss h (map call-of calls))
 
   -- From record 0 with any delivered events, and every plain side in state 0.
-  pub every-run-from-start : (cs : List ℕ) → converter-refusal cs ≡ 0 → Matched sides (converter cs) → (x y : Event) (calls : List Call)
-      → RunRight sides (record { converter = cs; runner = record { «record» = 0; first = x; second = y } }) (zeros sides) calls
+  pub every-run-from-start : (cs : List ℕ) → converter-refusal cs ≡ 0 → Matched (design d .sides) (converter cs) → (x y : Event) (calls : List Call)
+      → RunRight (design d .sides) (record { converter = cs; runner = record { «record» = 0; first = x; second = y } }) (zeros (design d .sides)) calls
   every-run-from-start cs ok m x y calls =
-      every-run (record { converter = cs; runner = record { «record» = 0; first = x; second = y } }) ok m (zeros sides) (record { there = m .some-node; names = m .starts }) calls
+      every-run (record { converter = cs; runner = record { «record» = 0; first = x; second = y } }) ok m (zeros (design d .sides)) (record { there = m .some-node; names = m .starts }) calls
 
   -- The same of the first n records of a table, which is what a search promises of its answer n.
   pub every-run-of-found : (table : List ℕ) (n : ℕ) → converter-refusal (take (record-bytes * n) table) ≡ 0 → Works (design d) (converter (take (record-bytes * n) table)) → (x y : Event) (calls : List Call)
-      → RunRight sides (record { converter = take (record-bytes * n) table; runner = record { «record» = 0; first = x; second = y } }) (zeros sides) calls
+      → RunRight (design d .sides) (record { converter = take (record-bytes * n) table; runner = record { «record» = 0; first = x; second = y } }) (zeros (design d .sides)) calls
   every-run-of-found table n ok w x y calls = every-run-from-start (take (record-bytes * n) table) ok (w .matched) x y calls
 
 -- ---- one tick
@@ -94,10 +91,10 @@ done-answer (Refused k) e = let z : _≡_ {A = ℕ} 0 1 = cc in absurd (omega ar
 
 -- Over any matched converter that isn't refused, from any record that is there and names the states of the plain sides: 17 never comes where each side shows
 -- what its table allows.
-pub tick-done : (d : List ℕ) → WellFormed (design d) → (cs : List ℕ) → converter-refusal cs ≡ 0 → Matched (design d .sides) (converter cs) → (r : Runner) (ss : List ℕ)
+pub tick-done : (d : List ℕ) → design-refusal d ≡ 0 → (cs : List ℕ) → converter-refusal cs ≡ 0 → Matched (design d .sides) (converter cs) → (r : Runner) (ss : List ℕ)
     → InStep (running-of (record { converter = cs; runner = r })) ss → (xs : List Event) → AllAllow (design d .sides) ss xs → TickDone (design d .sides) cs ss xs (ticked cs r xs)
-tick-done d formed cs ok m r ss h xs a =
+tick-done d right cs ok m r ss h xs a =
     let Ss = design d .sides in
-    let w = subst (model-runs.Done Ss (converter cs) ss xs) (sym (tick-in-model cs ok r xs)) (model-runs.tick-done Ss (all-regular Ss (formed .each-side)) (converter cs) m (runner-of r) ss (h .there) (h .names) xs a) in
+    let w = subst (model-runs.Done Ss (converter cs) ss xs) (sym (tick-in-model cs ok r xs)) (model-runs.tick-done Ss (regular d right) (converter cs) m (runner-of r) ss (h .there) (h .names) xs a) in
     let there = w .there in
     record { answered = done-answer (ticked cs r xs .answer) (w .answered); delivers = w .delivers; there = omega (arith, converter-length cs); names = w .names }

@@ -1,4 +1,5 @@
 -- 01, "The tick": one tick over the bytes of a converter. What is shown and what is delivered are lists with one event a side.
+use mathlib.Core.Path.{_≡_}
 use mathlib.Core.Bool.{Bool, cond}
 use mathlib.Core.List.{List, [], _∷_}
 use mathlib.Core.Option.{Option, none, some}
@@ -17,11 +18,6 @@ use Rattle.runner.specs.declared.Runner.{Runner}
 use Rattle.runner.specs.declared.Answer.{Answer}
 use Rattle.runner.specs.declared.Answer.the-variants.{Done, Refused}
 use Rattle.runner.specs.declared.Ticked.{Ticked}
-
--- 01's number of an answer, 0 for "done"
-abbrev pub number : Answer → ℕ
-number Done = 0
-number (Refused k) = k
 
 -- the events last delivered
 abbrev pub delivered : Runner → List Event
@@ -64,3 +60,8 @@ ticked cs r xs =
     cond (eqb (tick-refusal cs (r .«record») xs) 0)
     (taken r (first-fit xs (node (converter cs) (r .«record») .edges)))
     (refused r (tick-refusal cs (r .«record») xs))
+
+-- what a tick promises: its answer a, and the runner r′ that it leaves
+pub record Ticks (cs : List ℕ) (r : Runner) (xs : List Event) (a : Answer) (r′ : Runner) : Type 0 where
+  pub answers : a ≡ ticked cs r xs .answer
+  pub leaves : r′ ≡ ticked cs r xs .runner

@@ -12,7 +12,7 @@ ghost use Rattle.layout.specs.Sizes.{record-bytes};
 ghost use Rattle.layout.specs.Converters.{records, converter};
 ghost use Rattle.layout.specs.Tests.{in-range};
 ghost use Rattle.layout.specs.Refusals.{record-right};
-ghost use Rattle.runner.specs.Ticks.{can-show, tick-refusal, taken, ticked};
+ghost use Rattle.runner.specs.Ticks.{can-show, tick-refusal, taken, ticked, Ticks};
 use layout::converters;
 use layout::events;
 use layout::records::Transition;
@@ -26,6 +26,7 @@ pub struct Runner {
     pub second: i8,
 }
 
+// "done", or a refusal's number.
 pub enum Answer {
     Done,
     Refused(u8),
@@ -162,7 +163,7 @@ pub fn step(converter: &[u8], runner: Runner, first: i8, second: i8) -> Ticked
 
 // A tick with the runner lent.
 pub fn tick(converter: &[u8], runner: &mut Runner, first: i8, second: i8) -> Answer
-    ensures { λ a. ⌜ record { answer = a; runner = now (runner .exit) } ≡ ticked (now (converter .entry)) (now (runner .entry)) (first ∷ second ∷ []) ⌝ }
+    ensures { λ a. ⌜ Ticks (now (converter .entry)) (now (runner .entry)) (first ∷ second ∷ []) a (now (runner .exit)) ⌝ }
 {
     let t = step(converter, *runner, first, second);
     *runner = t.runner;

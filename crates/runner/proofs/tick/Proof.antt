@@ -129,7 +129,7 @@ module _ {M : Type 1} (𝓤 : URA M) (H : Heap 𝓤) (A : Atoms 𝓤) (W : Given
       → ent 𝓤 (⋆ 𝓤 H A (‵ (fobs γ (R.the-row .coded .code (t .runner))) ∷ ‵ (fbor κ′ (Body (mem R.the-row) b o γ)) ∷ ‵ (flft κ′ q′) ∷ (‵ (flft κ q) ⊛ ‵ ftrue) ∷ ‵ Own ∷ [])) (Post (mach-answer (t .answer)))
   exits t e is =
       qed W (‵ (fobs γ (R.the-row .coded .code (t .runner))) ∷ ‵ (fbor κ′ (Body (mem R.the-row) b o γ)) ∷ ‵ (flft κ′ q′) ∷ (‵ (flft κ q) ⊛ ‵ ftrue) ∷ ‵ Own ∷ []) ∵
-      suffices ! _ (ends-at 𝓤 H A tick.ended stayed (tick.clauses 𝓤 H A at-mem run) W (((κ, (κ′, tt)), (q, (q′, tt)), bounds, a, vals), tt) (mach-answer (t .answer)) (t .answer) (tt, (t .runner, (tt, (tt, tt)))) (tt, (tt, (tt, (tt, tt))))) $ says ! e $
+      suffices ! _ (ends-at 𝓤 H A tick.ended stayed (tick.clauses 𝓤 H A at-mem run) W (((κ, (κ′, tt)), (q, (q′, tt)), bounds, a, vals), tt) (mach-answer (t .answer)) (t .answer) (tt, (t .runner, (tt, (tt, tt)))) (tt, (tt, (tt, (tt, tt))))) $ says ! (record { answers = ap (λ (u : Ticked). u .answer) e; leaves = ap (λ (u : Ticked). u .runner) e }) $
       -- the tokens
       move ! (3 ∷ []) $ split ! $ move ! (4 ∷ 1 ∷ []) $ join ! $ move ! (1 ∷ 0 ∷ []) $ join ! $ frame ! $
       -- [obs; the borrow; what s owns]: what is had of the parameters, and the answer
