@@ -2,10 +2,12 @@
 // number of a refusal.
 mod build;
 mod bytes;
+mod designs;
 mod lines;
 mod ticks;
 
 fn main() {
     lines::checks();
+    designs::rows();
     ticks::rows();
 }
