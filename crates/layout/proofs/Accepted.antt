@@ -67,13 +67,17 @@ module _ (cs : List ℕ) where
   unfolding transition-at
   two-events c k h l u = sym (ap (λ e. length (e .events)) (edge-read cs c h k l u)) ∙ length-table _ _
 
-  -- each record of a converter that isn't refused
-  pub each-well-formed : converter-refusal cs ≡ 0 → (c : ℕ) → c < records cs → WellFormedNode (records cs) (node (converter cs) c)
+  -- a record that is right
+  pub right-well-formed : (c : ℕ) → c < records cs → record-right cs (records cs) (record-bytes * c) ≡ true → WellFormedNode (records cs) (node (converter cs) c)
   unfolding record-right
-  each-well-formed e c h =
+  right-well-formed c h e =
       subst (WellFormedNode (records cs)) (node-at cs c h)
       (well-formed (records cs) (node-of (record-at cs (record-bytes * c)))
-      (and-left (node-right (records cs) (node-of (record-at cs (record-bytes * c)))) (all-zero (unused converter-record cs (record-bytes * c))) (accepted e .right c h)))
+      (and-left (node-right (records cs) (node-of (record-at cs (record-bytes * c)))) (all-zero (unused converter-record cs (record-bytes * c))) e))
+
+  -- each record of a converter that isn't refused
+  pub each-well-formed : converter-refusal cs ≡ 0 → (c : ℕ) → c < records cs → WellFormedNode (records cs) (node (converter cs) c)
+  each-well-formed e c h = right-well-formed c h (accepted e .right c h)
 
 -- ---- the writer
 module _ (cs : List ℕ) (room : ℕ) where

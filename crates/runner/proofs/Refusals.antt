@@ -5,8 +5,8 @@ use mathlib.Core.List.{List}
 use mathlib.Core.Option.{Option, none, some}
 use Prim.Native.Nat.{ℕ, _*_, _<_}
 use native.Mathlib.Omega.{arith}
-use borrow.Author.Tests.{ltb-true, eq-eqb, eqb-false, ne-eqb}
-use lib.Dec.{eqb}
+use borrow.Author.Tests.{ltb-true, eq-eqb, ne-eqb}
+use lib.Dec.{lit<, eqb}
 use Rattle.model.specs.Events.{Event}
 use Rattle.model.specs.Converters.{Edge, node}
 use Rattle.model.specs.Judged.{all}
@@ -14,7 +14,7 @@ use Rattle.model.specs.Runs.{first-fit}
 use Rattle.layout.specs.Sizes.{record-bytes}
 use Rattle.layout.specs.Converters.{records, converter}
 use Rattle.layout.specs.Refusals.{size-right, record-right}
-use Rattle.layout.proofs.FirstFailing.{passed}
+use Rattle.layout.proofs.Passing.{passed}
 use Rattle.runner.specs.declared.Runner.{Runner}
 use Rattle.runner.specs.declared.Answer.the-variants.{Refused}
 use Rattle.runner.specs.Ticks.{can-show, tick-refusal, refused, taken, ticked}
@@ -29,10 +29,10 @@ pub record Passes (cs : List ℕ) (c : ℕ) (xs : List Event) : Type 0 where
 pub passes : (cs : List ℕ) (c : ℕ) (xs : List Event) → tick-refusal cs c xs ≡ 0 → Passes cs c xs
 unfolding tick-refusal
 passes cs c xs e =
-    let p = passed _ _ (eqb-false 10 0 refl) e in
-    let q = passed _ _ (eqb-false 17 0 refl) (p .1) in
-    let r = passed _ _ (eqb-false 11 0 refl) (q .1) in
-    let s = passed _ _ (eqb-false 17 0 refl) (r .1) in
+    let p = passed _ _ (lit< tt) e in
+    let q = passed _ _ (lit< tt) (p .1) in
+    let r = passed _ _ (lit< tt) (q .1) in
+    let s = passed _ _ (lit< tt) (r .1) in
     record { sized = p .0; there = ltb-true c (records cs) (q .0); right = r .0; shown = s .0 }
 
 module _ (cs : List ℕ) (r : Runner) (xs : List Event) where

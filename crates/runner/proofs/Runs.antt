@@ -4,8 +4,9 @@ use mathlib.Core.Path.{_≡_, refl, sym, ap, subst, _∙_}
 use mathlib.Core.List.{List, [], _∷_, map}
 use Prim.Native.Nat.{ℕ, _*_, _<_}
 use native.Mathlib.Omega.{arith}
-use borrow.Author.Tests.{eqb-false}
+
 use lib.ListN.{take}
+use lib.Dec.{lit<}
 use Rattle.model.specs.Events.{Event}
 use Rattle.model.specs.Sides.{Side}
 use Rattle.model.specs.Joined.{zeros}
@@ -20,7 +21,7 @@ use Rattle.layout.specs.Designs.{design}
 use Rattle.layout.specs.Converters.{records, converter}
 use Rattle.layout.specs.Refusals.{design-refusal, records-right, converter-refusal}
 use Rattle.layout.proofs.Accepted.{accepted, converter-length}
-use Rattle.layout.proofs.FirstFailing.{passed}
+use Rattle.layout.proofs.Passing.{passed}
 use Rattle.layout.proofs.WellFormed.{well-formed}
 use Rattle.runner.specs.declared.Runner.{Runner}
 use Rattle.runner.specs.declared.Answer.{Answer}
@@ -34,7 +35,7 @@ use Rattle.runner.proofs.InModel.{in-model}
 tick-in-model : (cs : List ℕ) → converter-refusal cs ≡ 0 → (r : Runner) (xs : List Event) → ticked-of (ticked cs r xs) ≡ model.ticked (converter cs) (runner-of r) xs
 unfolding converter-refusal
 tick-in-model cs ok r xs =
-    in-model cs r xs (passed _ (record { number = 11; passes = records-right cs } ∷ []) (eqb-false 10 0 refl) ok .0) (λ h. accepted cs ok .right (r .«record») h)
+    in-model cs r xs (passed _ (record { number = 11; passes = records-right cs } ∷ []) (lit< tt) ok .0) (λ h. accepted cs ok .right (r .«record») h)
 
 call-in-model : (R : Running) → converter-refusal (R .converter) ≡ 0 → (c : Call) → called-of (called R c) ≡ model.called (running-of R) (call-of c)
 unfolding called model.called

@@ -11,7 +11,7 @@ use Rattle.model.specs.Events.{tick, InRange, dual, duals}
 use Rattle.layout.specs.Sizes.{side-count, last-event}
 use Rattle.layout.specs.Tables.{table, table-from}
 use Rattle.layout.specs.Tests.{in-range}
-use Rattle.layout.proofs.Nodes.{all-at}
+use Rattle.layout.proofs.Tables.{all-at}
 use Rattle.layout.proofs.SignedBytes.{read-back}
 use Rattle.layout.proofs.Tables.{as-table}
 use Rattle.runner.proofs.side_events.Statement.{statement}
