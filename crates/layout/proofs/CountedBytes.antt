@@ -1,19 +1,19 @@
 -- Tests 1 and 4 leave a design whose counts are within their limits.
-use mathlib.Core.Path.{_≡_, ap}
-use mathlib.Core.Bool.{true, _&&_}
-use mathlib.Core.List.{List, List·Memᴰ as In}
+use mathlib.Core.Path.{_≡_}
+use mathlib.Core.List.{List}
 use Prim.Native.Nat.{ℕ, zero, suc, _≤_, _<_}
 use native.Mathlib.Omega.{arith}
 use lib.Dec.{T, leb, leb→le, lit<}
-use lib.ListN.{length, getD}
+use lib.ListN.{length}
 use Rattle.model.specs.Judged.{all}
 use Rattle.model.proofs.Bools.{and-both}
 use Rattle.model.proofs.Lists.{all-in, getD-in}
 use Rattle.layout.specs.Sizes.{side-count, most-states, design-bytes}
-use Rattle.layout.specs.Blocks.{Block, kernel, design-blocks, record-count}
-use Rattle.layout.specs.Designs.{design, side, side-block}
+use Rattle.layout.specs.Blocks.{kernel, design-blocks, record-count}
+use Rattle.layout.specs.Designs.{design, side}
 use Rattle.layout.specs.Counted.{Counted}
-use Rattle.layout.specs.Refusals.{count-right}
+use Rattle.layout.specs.Refusals.{count-right, design-refusal}
+use Rattle.layout.proofs.WellFormed.{passed}
 use Rattle.layout.proofs.DesignBlocks.{block}
 use Rattle.layout.proofs.DesignBytes.{side-length, forms-length, rules-length}
 
@@ -40,3 +40,7 @@ module _ (bs : List ℕ) (counts : T (all (count-right bs) design-blocks)) where
         few-formulas = omega (arith, forms-length bs, within 2 (lit< tt) .1);
         few-rules = omega (arith, rules-length bs, within 3 (lit< tt) .1);
       }
+
+-- so the counts of a design that is not refused are
+pub accepted-counts : (bs : List ℕ) → design-refusal bs ≡ 0 → Counted bs
+accepted-counts bs e = let p = passed bs e in counted bs (p .counts) (p .whole)

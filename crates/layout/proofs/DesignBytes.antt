@@ -6,9 +6,9 @@ use native.Mathlib.Omega.{arith}
 use lib.ListN.{length, getD}
 use Rattle.model.specs.Sides.{state, no-state}
 use Rattle.model.specs.Formulas.{truth}
-use Rattle.layout.specs.Sizes.{side-count, block-bytes, state-bytes, count-in-block, records-in-block}
+use Rattle.layout.specs.Sizes.{side-count, block-bytes, state-bytes, records-in-block}
 use Rattle.layout.specs.Bytes.{byte}
-use Rattle.layout.specs.States.{state-at, state-of}
+use Rattle.layout.specs.States.{state-of}
 use Rattle.layout.specs.Formulas.{form-at, formula-at, formula-of}
 use Rattle.layout.specs.Blocks.{formulas, rules, record-count, record-place}
 use Rattle.layout.specs.Designs.{side-in, forms-in, rules-in, design, side, side-block, stored-state, stored-formula}

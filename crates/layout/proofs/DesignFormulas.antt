@@ -1,5 +1,5 @@
 -- Test 7 of a design's formulas, as the code makes it: formula by formula.
-use mathlib.Core.Path.{_≡_, refl, sym, ap, subst, _∙_}
+use mathlib.Core.Path.{_≡_, refl, sym, subst}
 use mathlib.Core.Bool.{Bool, true, false, _&&_}
 use mathlib.Core.List.{List}
 use Prim.Native.Nat.{ℕ, _<_}
@@ -9,7 +9,6 @@ use lib.ListN.{length, getD}
 use Rattle.model.specs.Formulas.{Form, truth}
 use Rattle.model.proofs.Bools.{T-true, T-false, and-both, both-and}
 use Rattle.layout.specs.Bytes.{byte}
-use Rattle.layout.specs.Tables.{every}
 use Rattle.layout.specs.Formulas.{known-kind, formula-at, formula-of}
 use Rattle.layout.specs.Blocks.{formulas, record-count, record-place}
 use Rattle.layout.specs.Designs.{design, stored-formula}

@@ -5,7 +5,7 @@ use Prim.Native.Nat.{ℕ, zero, suc, _≤_, _<_}
 use native.Mathlib.Omega.{arith}
 use borrow.Author.Tests.{lt-ltb, le-ltb, eq-eqb, ne-eqb}
 use lib.Dec.{T, eqb, leb, ltb, leb→le, le→leb}
-use lib.ListN.{length, getD}
+use lib.ListN.{getD}
 use Rattle.model.specs.Events.{Event, same-event}
 use Rattle.model.specs.Sides.{Move, any-sent}
 use Rattle.model.proofs.Bools.{T-true, T-false, and-both, both-and}

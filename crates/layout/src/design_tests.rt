@@ -1,26 +1,20 @@
 // Refusals 1 to 8 of a design, each over the whole input and in this order.
 ghost use mathlib.Core.Path.{_≡_};
-ghost use mathlib.Core.Bool.{not, _&&_};
-ghost use Prim.Native.Nat.{_≤_, _<_};
+ghost use mathlib.Core.Bool.{_&&_};
+ghost use Prim.Native.Nat.{_<_};
 ghost use lib.Dec.{T};
-ghost use lib.ListN.{length, getD};
-ghost use Rattle.model.specs.Events.{same-event};
+ghost use lib.ListN.{length};
 ghost use Rattle.model.specs.Judged.{all};
-ghost use Rattle.layout.specs.Sizes.{side-count, place-count, design-bytes};
-ghost use Rattle.layout.specs.Tables.{every};
-ghost use Rattle.layout.specs.States.{no-place, move-of, state-of};
+ghost use Rattle.layout.specs.Sizes.{side-count, design-bytes};
 ghost use Rattle.layout.specs.Blocks.{formulas, rules, side-blocks, design-blocks};
 ghost use Rattle.layout.specs.Designs.{design, side, side-block};
 ghost use Rattle.layout.specs.Counted.{Counted};
-ghost use Rattle.layout.specs.Tests.{state-right, side-right, sends-or-waits, kind-right, kinds-right, forms-right, rules-right};
+ghost use Rattle.layout.specs.Tests.{side-right, kinds-right, forms-right, rules-right};
 ghost use Rattle.layout.specs.Refusals.{check-right, header-right, count-right, kinds-known, formulas-right, unused-right, design-refusal};
 use crate::blocks;
 use crate::designs;
-use crate::events;
-use crate::joint;
 use crate::sizes;
-use crate::states::Place;
-use crate::states::StateRecord;
+use crate::state_tests;
 
 // ---- 2, 3, 4: block by block. Block i has kind i + 1.
 const BLOCKS: usize = 4;
@@ -81,53 +75,6 @@ fn counts_right(s: &[u8]) -> bool
 
 // ---- 5
 
-// Whether the event of place k stands at no earlier place.
-fn event_fresh(q: StateRecord, k: usize) -> bool
-    requires { ⌜ k < place-count ⌝ }
-    ensures { λ r. ⌜ r ≡ every k (λ j. not (same-event (getD (q .places) j no-place .event) (getD (q .places) k no-place .event))) ⌝ }
-{
-    let here = q.places[k];
-    let mut j = 0;
-    // It stands at none of the first j places.
-    while j < k {
-        let there = q.places[j];
-        if events::same(there.event, here.event) {
-            return false;
-        }
-        j += 1;
-    }
-    true
-}
-
-// A state of a side that has n: 1 to 8 transitions, events in range and none twice, targets that are states.
-fn state_right(q: StateRecord, n: usize) -> bool
-    ensures { λ r. ⌜ r ≡ state-right n (state-of q) ⌝ }
-{
-    let count = q.count as usize;
-    if count < 1 {
-        return false;
-    }
-    if sizes::PLACES < count {
-        return false;
-    }
-    let mut k = 0;
-    // The first k transitions are right.
-    while k < count {
-        let m = q.places[k];
-        if !events::in_range(m.event) {
-            return false;
-        }
-        if n <= m.target as usize {
-            return false;
-        }
-        if !event_fresh(q, k) {
-            return false;
-        }
-        k += 1;
-    }
-    true
-}
-
 // The states of side i.
 fn side_right(s: &[u8], i: usize) -> bool
     requires { ⌜ Counted (now s) × (i < side-count) ⌝ }
@@ -137,7 +84,7 @@ fn side_right(s: &[u8], i: usize) -> bool
     let mut k = 0;
     // The first k states are right.
     while k < n {
-        if !state_right(designs::side_state(s, i, k), n) {
+        if !state_tests::state_right(designs::side_state(s, i, k), n) {
             return false;
         }
         k += 1;
@@ -162,41 +109,6 @@ fn sides_right(s: &[u8]) -> bool
 
 // ---- 6
 
-// Whether m is sent and w ticks back to state k.
-fn sends_or_waits(k: usize, m: Place, w: Place) -> bool
-    ensures { λ r. ⌜ r ≡ sends-or-waits k (move-of m) (move-of w) ⌝ }
-{
-    if !events::is_sent(m.event) {
-        return false;
-    }
-    if !events::same(w.event, 0) {
-        return false;
-    }
-    w.target as usize == k
-}
-
-// Whether state number k is input, output-only or delayed.
-fn kind_right(q: StateRecord, k: usize) -> bool
-    requires { ⌜ q .count ≤ place-count ⌝ }
-    ensures { λ r. ⌜ r ≡ kind-right k (state-of q) ⌝ }
-{
-    if !joint::sends(q) {
-        return true;
-    }
-    if q.count == 1 {
-        return true;
-    }
-    if q.count != 2 {
-        return false;
-    }
-    let a = q.places[0];
-    let b = q.places[1];
-    if sends_or_waits(k, a, b) {
-        return true;
-    }
-    sends_or_waits(k, b, a)
-}
-
 fn side_kinds_right(s: &[u8], i: usize) -> bool
     requires { ⌜ Counted (now s) × (i < side-count) × T (side-right (side (design (now s)) i)) ⌝ }
     ensures { λ r. ⌜ r ≡ kinds-right (side (design (now (s .entry))) i) ⌝ }
@@ -205,7 +117,7 @@ fn side_kinds_right(s: &[u8], i: usize) -> bool
     let mut k = 0;
     // The first k states are right.
     while k < n {
-        if !kind_right(designs::side_state(s, i, k), k) {
+        if !state_tests::kind_right(designs::side_state(s, i, k), k) {
             return false;
         }
         k += 1;

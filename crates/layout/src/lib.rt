@@ -12,5 +12,6 @@ pub mod positions;
 pub mod ranges;
 pub mod records;
 pub mod sizes;
+pub mod state_tests;
 pub mod states;
 pub mod words;

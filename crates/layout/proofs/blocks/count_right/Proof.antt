@@ -1,5 +1,5 @@
 -- `blocks::count_right` meets its contract.
-use mathlib.Core.Path.{_≡_, sym, ap, _∙_}
+use mathlib.Core.Path.{_≡_, ap}
 use mathlib.Core.Bool.{true, false}
 use Prim.Native.Nat.{_+_}
 use native.Mathlib.Omega.{arith}

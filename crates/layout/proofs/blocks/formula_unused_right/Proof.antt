@@ -4,7 +4,7 @@ use Prim.Native.Nat.{_+_}
 use Rattle.layout.specs.Sizes.{gap-at}
 use Rattle.layout.specs.Bytes.{byte, all-zero}
 use Rattle.layout.specs.Formulas.{form-at, formula-at, formula-of, absent}
-use Rattle.layout.specs.Unused.{formula-record, unused}
+use Rattle.layout.specs.Unused.{unused}
 use Rattle.layout.proofs.ZeroBytes.{nonzero-first, zero-first}
 use borrow.Author.Needs.{needs}
 use Rattle.layout.proofs.blocks.formula_unused_right.Statement.{statement}

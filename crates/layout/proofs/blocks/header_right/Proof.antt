@@ -1,13 +1,10 @@
 -- `blocks::header_right` meets its contract.
-use mathlib.Core.Path.{_≡_, sym, ap, ap₂, _∙_}
-use mathlib.Core.Bool.{Bool, true, false, _&&_}
-use Prim.Native.Nat.{_+_}
+use mathlib.Core.Path.{_≡_, sym, ap, _∙_}
+use mathlib.Core.Bool.{true, false}
 use borrow.Author.Tests.{eq-eqb, ne-eqb}
 use lib.Dec.{eqb}
-use Rattle.layout.specs.Sizes.{first-in-block}
-use Rattle.layout.specs.Bytes.{byte, word}
+use Rattle.layout.specs.Bytes.{byte}
 use Rattle.layout.specs.Refusals.{header-right}
-use Rattle.layout.proofs.Tables.{and-false}
 use borrow.Author.Needs.{needs}
 use Rattle.layout.proofs.blocks.header_right.Statement.{statement}
 use Rattle.layout.proofs.blocks.header_right.Tie as tie

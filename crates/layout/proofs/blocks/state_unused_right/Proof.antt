@@ -1,13 +1,12 @@
 -- `blocks::state_unused_right` meets its contract: byte 3 first, then the places that are not used.
-use mathlib.Core.Path.{_≡_, refl, sym, ap, _∙_}
-use mathlib.Core.List.{[]}
-use Prim.Native.Nat.{ℕ, _+_, _-_, _*_, _≤_}
+use mathlib.Core.Path.{_≡_, sym, ap, _∙_}
+use Prim.Native.Nat.{_+_, _-_, _*_}
 use native.Mathlib.Omega.{arith}
 use lib.ListN.{take, drop}
 use Rattle.model.specs.Judged.{all}
 use Rattle.layout.specs.Sizes.{place-count, count-at, places-at, gap-at, move-bytes}
 use Rattle.layout.specs.Bytes.{byte, part, all-zero}
-use Rattle.layout.specs.Unused.{state-record, unused, unused-places}
+use Rattle.layout.specs.Unused.{unused, unused-places}
 use Rattle.layout.proofs.ZeroBytes.{nonzero-first, zero-first}
 use borrow.Author.Needs.{needs}
 use Rattle.layout.proofs.blocks.state_unused_right.Statement.{statement}

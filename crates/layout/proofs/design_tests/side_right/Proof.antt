@@ -7,7 +7,7 @@ use native.Mathlib.Omega.{arith}
 use borrow.Author.Count.{below-more}
 use borrow.Author.Tests.{not-true, not-false}
 use lib.ListN.{length}
-use Rattle.model.specs.Sides.{State, state}
+use Rattle.model.specs.Sides.{state}
 use Rattle.layout.specs.States.{state-of}
 use Rattle.layout.specs.Designs.{design, side}
 use Rattle.layout.specs.Tests.{state-right, side-right}

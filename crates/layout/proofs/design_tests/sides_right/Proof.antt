@@ -7,7 +7,6 @@ use native.Mathlib.Omega.{arith}
 use borrow.Author.Count.{below-more}
 use borrow.Author.Tests.{not-true, not-false}
 use mathlib.Core.List.{[]}
-use lib.ListN.{length}
 use Rattle.layout.specs.Designs.{design, side}
 use Rattle.layout.specs.Tests.{side-right}
 use Rattle.layout.proofs.DesignBytes.{sides-two}

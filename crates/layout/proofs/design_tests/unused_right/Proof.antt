@@ -2,8 +2,7 @@
 use mathlib.Core.Path.{sym, ap, _∙_}
 use mathlib.Core.Bool.{_&&_}
 use borrow.Author.Tests.{not-true, not-false}
-use Rattle.model.specs.Judged.{all}
-use Rattle.layout.specs.Blocks.{formulas, rules, side-blocks}
+use Rattle.layout.specs.Blocks.{formulas, rules}
 use Rattle.layout.specs.Refusals.{unused-right}
 use Rattle.layout.proofs.DesignBlocks.{sides-first}
 use borrow.Author.Needs.{needs}

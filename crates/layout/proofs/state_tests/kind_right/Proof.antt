@@ -1,13 +1,13 @@
--- `design_tests::kind_right` meets its contract.
+-- `state_tests::kind_right` meets its contract.
 use mathlib.Core.Path.{_≡_, sym, ap, _∙_}
-use mathlib.Core.Bool.{true, false, _||_}
+use mathlib.Core.Bool.{true, _||_}
 use borrow.Author.Tests.{not-true, not-false}
 use Rattle.model.specs.Sides.{any-sent}
 use Rattle.layout.specs.States.{state-of}
-use Rattle.layout.proofs.StateRecords.{sends-first, waits-first, unsent-passes, single-passes, other-fails, two-decides}
+use Rattle.layout.proofs.StateRecords.{waits-first, unsent-passes, single-passes, other-fails, two-decides}
 use borrow.Author.Needs.{needs}
-use Rattle.layout.proofs.design_tests.kind_right.Statement.{statement}
-use Rattle.layout.proofs.design_tests.kind_right.Tie as tie
+use Rattle.layout.proofs.state_tests.kind_right.Statement.{statement}
+use Rattle.layout.proofs.state_tests.kind_right.Tie as tie
 
 sends-requires : tie.Need-sends-requires
 sends-requires c κs = search needs

@@ -1,13 +1,11 @@
--- `design_tests::sends_or_waits` meets its contract.
+-- `state_tests::sends_or_waits` meets its contract.
 use mathlib.Core.Path.{_≡_, sym, ap, _∙_}
-use mathlib.Core.Bool.{_&&_}
 use borrow.Author.Tests.{not-true, not-false}
-use lib.Dec.{eqb}
 use Rattle.model.specs.Events.{tick, sent, same-event}
 use Rattle.layout.proofs.SignedBytes.{read-back}
 use borrow.Author.Needs.{needs}
-use Rattle.layout.proofs.design_tests.sends_or_waits.Statement.{statement}
-use Rattle.layout.proofs.design_tests.sends_or_waits.Tie as tie
+use Rattle.layout.proofs.state_tests.sends_or_waits.Statement.{statement}
+use Rattle.layout.proofs.state_tests.sends_or_waits.Tie as tie
 
 is-sent-requires : tie.Need-is-sent-requires
 is-sent-requires c κs = search needs

@@ -1,4 +1,4 @@
--- `design_tests::state_right` meets its contract. The invariant: each of the first k places is right.
+-- `state_tests::state_right` meets its contract. The invariant: each of the first k places is right.
 use mathlib.Core.Path.{_≡_, sym, ap, _∙_}
 use Prim.Native.Nat.{ℕ, _-_, _≤_, _<_}
 use native.Mathlib.Nat.{not-suc-le-zero}
@@ -6,13 +6,11 @@ use native.Mathlib.Omega.{arith}
 use borrow.Author.Count.{below-more}
 use borrow.Author.Tests.{not-true, not-false}
 use borrow.Author.Needs.{needs}
-use lib.ListN.{getD}
-use Rattle.layout.specs.States.{no-place}
 use Rattle.layout.specs.Tests.{in-range}
 use Rattle.layout.proofs.SignedBytes.{read-back}
-use Rattle.layout.proofs.StateRecords.{event-at, target-at, fresh, Placed, none-fails, many-fails, range-fails, target-fails, twice-fails, places-pass}
-use Rattle.layout.proofs.design_tests.state_right.Statement.{statement}
-use Rattle.layout.proofs.design_tests.state_right.Tie as tie
+use Rattle.layout.proofs.StateRecords.{event-at, Placed, none-fails, many-fails, range-fails, target-fails, twice-fails, places-pass}
+use Rattle.layout.proofs.state_tests.state_right.Statement.{statement}
+use Rattle.layout.proofs.state_tests.state_right.Tie as tie
 
 abbrev Inv-loop : tie.InvT-loop
 Inv-loop n q count k₀ k = (k ≤ count) × ((j : ℕ) → j < k → Placed q n j)

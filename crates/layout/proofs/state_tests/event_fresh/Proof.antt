@@ -1,19 +1,17 @@
--- `design_tests::event_fresh` meets its contract. The invariant: the event of place k stands at none of the first j places.
+-- `state_tests::event_fresh` meets its contract. The invariant: the event of place k stands at none of the first j places.
 use mathlib.Core.Path.{_≡_, sym, ap, ap₂, _∙_}
-use mathlib.Core.Bool.{Bool, true, false, not}
+use mathlib.Core.Bool.{Bool, true, not}
 use Prim.Native.Nat.{ℕ, _-_, _≤_, _<_}
 use native.Mathlib.Nat.{not-suc-le-zero}
 use native.Mathlib.Omega.{arith}
 use borrow.Author.Count.{below-more}
 use borrow.Author.Needs.{needs}
-use lib.ListN.{getD}
 use Rattle.model.specs.Events.{same-event}
-use Rattle.layout.specs.States.{no-place}
 use Rattle.layout.proofs.SignedBytes.{read-back}
 use Rattle.layout.proofs.StateRecords.{event-at}
 use Rattle.layout.proofs.Tables.{every-true, every-false}
-use Rattle.layout.proofs.design_tests.event_fresh.Statement.{statement}
-use Rattle.layout.proofs.design_tests.event_fresh.Tie as tie
+use Rattle.layout.proofs.state_tests.event_fresh.Statement.{statement}
+use Rattle.layout.proofs.state_tests.event_fresh.Tie as tie
 
 abbrev Inv-loop : tie.InvT-loop
 Inv-loop k q here j₀ j = (j ≤ k) × ((i : ℕ) → i < j → not (same-event (event-at q i) (event-at q k)) ≡ true)
