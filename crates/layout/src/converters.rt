@@ -10,12 +10,7 @@ ghost use Rattle.layout.specs.Sizes.{record-bytes, most-states, place-co
 ghost use Rattle.layout.specs.Records.{node-of, edge-of};
 ghost use Rattle.layout.specs.Converters.{records, converter};
 ghost use Rattle.layout.specs.Tests.{in-range, node-right};
-ghost use Rattle.layout.specs.Refusals.{
-  size-right,
-  record-right,
-  records-right,
-  converter-refusal,
-};
+ghost use Rattle.layout.specs.Refusals.{size-right, record-right, records-right, converter-refusal};
 use crate::events;
 use crate::ranges;
 use crate::records;
