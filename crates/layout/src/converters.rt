@@ -18,6 +18,7 @@ use crate::records::Outcome;
 use crate::records::Record;
 use crate::records::Transition;
 use crate::sizes;
+use crate::words;
 
 // How many records there are.
 pub fn count(s: &[u8]) -> usize
@@ -49,7 +50,7 @@ pub fn edge_count(s: &[u8], c: usize) -> usize
     requires { ⌜ c < records (now s) ⌝ }
     ensures { λ r. ⌜ r ≡ length (node (converter (now (s .entry))) c .edges) ⌝ }
 {
-    s[sizes::RECORD_BYTES * c + sizes::COUNT_AT] as usize
+    words::read_byte(s, sizes::RECORD_BYTES * c + sizes::COUNT_AT)
 }
 
 // Its transition k.

@@ -201,7 +201,8 @@ pub fn record_count(s: &[u8]) -> usize
     ensures { λ r. ⌜ r ≡ file-count (now (s .entry)) ⌝ }
 {
     let last = block_count(s) - 1;
-    sizes::BLOCK_RECORDS * last + s[sizes::BLOCK_BYTES * last + sizes::COUNT_IN_BLOCK] as usize
+    sizes::BLOCK_RECORDS * last
+        + words::read_byte(s, sizes::BLOCK_BYTES * last + sizes::COUNT_IN_BLOCK)
 }
 
 // 4 where that is over 65,536, and 0 otherwise.
