@@ -3,7 +3,7 @@ use mathlib.Core.Path.{_≡_, refl, sym, _∙_}
 use mathlib.Core.Bool.{true}
 use mathlib.Core.List.{List, [], _∷_, _++_}
 use Prim.Native.Nat.{ℕ, _*_, _≤_}
-use borrow.Author.Tests.{leb-true, le-leb, eqb-false}
+use borrow.Author.Tests.{leb-true, le-leb}
 use lib.Dec.{lit<}
 use Rattle.model.specs.Judged.{all}
 use Rattle.layout.specs.Sizes.{record-bytes}

@@ -53,11 +53,11 @@ module _ (bs : List ℕ) (n k : ℕ) where
     pub full : (k + 1 ≡ n → ⊥) → count ≡ block-records
 
   -- the test of the last block, and of another
-  pub last-count : k + 1 ≡ n → count-right bs (file-block n k) ≡ (leb 1 count && leb count block-records)
+  last-count : k + 1 ≡ n → count-right bs (file-block n k) ≡ (leb 1 count && leb count block-records)
   unfolding count-right
   last-count e = ap (λ b. leb (cond b 1 block-records) count && leb count block-records) (eq-eqb (k + 1) n e)
 
-  pub full-count : (k + 1 ≡ n → ⊥) → count-right bs (file-block n k) ≡ (leb block-records count && leb count block-records)
+  full-count : (k + 1 ≡ n → ⊥) → count-right bs (file-block n k) ≡ (leb block-records count && leb count block-records)
   unfolding count-right
   full-count e = ap (λ b. leb (cond b 1 block-records) count && leb count block-records) (ne-eqb (k + 1) n e)
 

@@ -1,37 +1,35 @@
 -- Refusals 2, 3, 4 and 8 of a file: found block by block, and what it says of the file that none holds.
 use mathlib.Core.Path.{_≡_, refl, sym, ap, _∙_}
-use mathlib.Core.Bool.{Bool, true, false, _&&_, cond, and-comm, and-assoc}
+use mathlib.Core.Bool.{Bool, true, _&&_, cond, and-comm, and-assoc}
 use mathlib.Core.List.{List, [], _∷_}
 use Prim.Native.Nat.{ℕ, suc, _+_, _-_, _*_, _≤_, _<_}
 use native.Mathlib.Numerals.{add-one}
 use native.Mathlib.Omega.{arith}
-use borrow.Author.Tests.{leb-true, le-leb, eqb-false}
+use borrow.Author.Tests.{leb-true, le-leb}
 use lib.Dec.{lit<, leb}
 use Rattle.model.specs.Judged.{all}
+use Rattle.model.proofs.Bools.{T-true, bool-iff}
 use Rattle.layout.specs.Sizes.{block-records, most-records}
 use Rattle.layout.specs.Tables.{table, every}
 use Rattle.layout.specs.Blocks.{Block}
 use Rattle.layout.specs.Files.{blocks, file-block, file-blocks, file-count}
 use Rattle.layout.specs.Refusals.{Test, first-failing, check-right, header-right, count-right, unused-right, block-tests, earlier}
-use Rattle.layout.proofs.Tables.{and-left, and-right, every-true, every-at, all-true, and-unit, length-table, entry}
+use Rattle.layout.proofs.Tables.{true-T, and-left, and-right, every-true, every-at, all-true, and-unit, length-table, entry}
 use Rattle.layout.proofs.Tables.{all-at}
 use Rattle.layout.proofs.Passing.{passed}
 use Rattle.layout.proofs.FileSizes.{Sized}
 use Rattle.layout.proofs.BlockTests.{counted}
 use Rattle.layout.proofs.Earlier.{row, both-first}
 
--- two tests that hold together are equal
-same-truth : (a b : Bool) → (a ≡ true → b ≡ true) → (b ≡ true → a ≡ true) → a ≡ b
-same-truth true b f g = sym (f refl)
-same-truth false true f g = g refl
-same-truth false false f g = refl
-
 -- a test of each entry of a table
 pub all-table : {A : Type 0} (p : A → Bool) (f : ℕ → A) (n : ℕ) → all p (table n f) ≡ every n (λ k. p (f k))
 all-table p f n =
-    same-truth (all p (table n f)) (every n (λ k. p (f k)))
-    (λ e. every-true (λ k. p (f k)) n (λ k h. sym (ap p (entry f (f 0) n k h)) ∙ all-at p (f 0) (table n f) e k (omega (arith, length-table f n))))
-    (λ e. all-true p (f 0) (table n f) (λ k h. let l : k < n = omega (arith, length-table f n) in ap p (entry f (f 0) n k l) ∙ every-at (λ j. p (f j)) n e k l))
+    bool-iff (all p (table n f)) (every n (λ k. p (f k)))
+    (λ t. true-T (every n (λ k. p (f k))) (every-true (λ k. p (f k)) n (λ k h.
+    sym (ap p (entry f (f 0) n k h)) ∙ all-at p (f 0) (table n f) (T-true (all p (table n f)) t) k (omega (arith, length-table f n)))))
+    (λ t. true-T (all p (table n f)) (all-true p (f 0) (table n f) (λ k h.
+    let l : k < n = omega (arith, length-table f n) in
+    ap p (entry f (f 0) n k l) ∙ every-at (λ j. p (f j)) n (T-true (every n (λ j. p (f j))) t) k l)))
 
 abbrev pub four : Bool → Bool → Bool → Bool → List Test
 four a b c d =

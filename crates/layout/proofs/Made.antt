@@ -12,7 +12,6 @@ use lib.IntN.{natAbs}
 use lib.ListN.{length, getD, set, length-set}
 use lib.Seq.{getD-set-same, getD-set-other}
 use Rattle.model.specs.Events.{Event, tick, InRange}
-use Rattle.model.specs.Converters.{edge}
 use Rattle.model.specs.Judged.{all, same-events}
 use Rattle.model.proofs.Bools.{T-true, T-false}
 use Rattle.model.proofs.JointMoves.{same-events-eq, eq-same-events}
@@ -97,7 +96,7 @@ module _ (r : Record) (n : ℕ) where
       let room : made .count < place-count = omega (arith, m .counted) in
       let none = absent made (at k) room e in
       let new : (i : ℕ) → i < k → at i .events ≡ at k .events → ⊥ =
-            λ i l q. not-there made (at k .events) none i (omega (arith, m .counted)) (ap (λ t. t .events) (m .same i l) ∙ q) in
+      λ i l q. not-there made (at k .events) none i (omega (arith, m .counted)) (ap (λ t. t .events) (m .same i l) ∙ q) in
       subst (λ x. Made x (k + 1)) (sym (ap (λ a. a .left) (adds made (at k) room none)))
       record {
         counted = ap (λ i. i + 1) (m .counted);

@@ -10,12 +10,7 @@ ghost use Rattle.layout.specs.Sizes.{record-bytes, most-states, place-co
 ghost use Rattle.layout.specs.Records.{node-of, edge-of};
 ghost use Rattle.layout.specs.Converters.{records, converter};
 ghost use Rattle.layout.specs.Tests.{in-range, node-right};
-ghost use Rattle.layout.specs.Refusals.{
-  size-right,
-  record-right,
-  records-right,
-  converter-refusal,
-};
+ghost use Rattle.layout.specs.Refusals.{size-right, record-right, records-right, converter-refusal};
 use crate::events;
 use crate::ranges;
 use crate::records;
@@ -23,6 +18,7 @@ use crate::records::Outcome;
 use crate::records::Record;
 use crate::records::Transition;
 use crate::sizes;
+use crate::words;
 
 // How many records there are.
 pub fn count(s: &[u8]) -> usize
@@ -54,7 +50,7 @@ pub fn edge_count(s: &[u8], c: usize) -> usize
     requires { ⌜ c < records (now s) ⌝ }
     ensures { λ r. ⌜ r ≡ length (node (converter (now (s .entry))) c .edges) ⌝ }
 {
-    s[sizes::RECORD_BYTES * c + sizes::COUNT_AT] as usize
+    words::read_byte(s, sizes::RECORD_BYTES * c + sizes::COUNT_AT)
 }
 
 // Its transition k.

@@ -1,39 +1,19 @@
 // Converter files: blocks of kind 5, 14 records each, the last 1 to 14. The writer and the block reader.
 ghost use mathlib.Core.Path.{_≡_};
-ghost use mathlib.Core.List.{[], _∷_, _++_};
+ghost use mathlib.Core.List.{_∷_};
 ghost use mathlib.Core.Bool.{true, cond};
 ghost use Prim.Native.Nat.{_+_, _-_, _*_, _/_, _%_, _<_, _≤_, min};
 ghost use lib.Dec.{leb};
 ghost use lib.ListN.{length};
-ghost use Rattle.layout.specs.Sizes.{
-  record-bytes,
-  block-bytes,
-  check-in-block,
-  records-in-block,
-  block-records,
-  most-records,
-};
+ghost use Rattle.layout.specs.Sizes.{record-bytes, block-bytes, check-in-block, records-in-block, block-records, most-records, most-blocks};
 ghost use Rattle.layout.specs.Bytes.{part, check, word-bytes, put};
 ghost use Rattle.layout.specs.Converters.{records};
 ghost use Rattle.layout.specs.Files.{blocks, file-block, file-count, file-records, blocks-for, written-block, written};
-ghost use Rattle.layout.specs.Refusals.{
-  first-failing,
-  check-right,
-  header-right,
-  count-right,
-  unused-right,
-  block-tests,
-  earlier,
-  converter-refusal,
-  write-refusal,
-  records-right,
-  file-size-right,
-  file-tests,
-  read-refusal,
-};
+ghost use Rattle.layout.specs.Refusals.{first-failing, block-tests, earlier, converter-refusal, write-refusal, records-right, file-size-right, file-tests, read-refusal};
 ghost use Rattle.layout.specs.Answers.{Writes, Reads};
 use crate::answers::Read;
 use crate::answers::Written;
+use crate::blocks;
 use crate::converters;
 use crate::ranges;
 use crate::sizes;
@@ -163,73 +143,35 @@ fn file_size_right(s: &[u8]) -> bool
     block_count(s) <= sizes::MOST_BLOCKS
 }
 
-// ---- tests of block k of n
-
-// Its check (2).
-fn check_right(s: &[u8], n: usize, k: usize) -> bool
-    requires { ⌜ (k < n) × (block-bytes * n ≤ length (now s)) ⌝ }
-    ensures { λ r. ⌜ r ≡ check-right (now (s .entry)) (file-block n k) ⌝ }
+// How many records block k of n has at least: all but the last are full.
+fn least_count(n: usize, k: usize) -> usize
+    requires { ⌜ k < n ⌝ }
+    ensures { λ r. ⌜ r ≡ file-block n k .least ⌝ }
 {
-    let at = sizes::BLOCK_BYTES * k;
-    words::read_word(s, at + sizes::CHECK_IN_BLOCK) == ranges::check_of(s, at)
-}
-
-// Its kind and first record (3).
-fn header_right(s: &[u8], n: usize, k: usize) -> bool
-    requires { ⌜ (k < n) × (block-bytes * n ≤ length (now s)) ⌝ }
-    ensures { λ r. ⌜ r ≡ header-right (now (s .entry)) (file-block n k) ⌝ }
-{
-    let at = sizes::BLOCK_BYTES * k;
-    if s[at] != sizes::CONVERTER_KIND {
-        return false;
-    }
-    words::read_word(s, at + sizes::FIRST_IN_BLOCK) as usize == sizes::BLOCK_RECORDS * k
-}
-
-// Its record count (4): 14, and 1 to 14 in the last.
-fn count_right(s: &[u8], n: usize, k: usize) -> bool
-    requires { ⌜ (k < n) × (block-bytes * n ≤ length (now s)) ⌝ }
-    ensures { λ r. ⌜ r ≡ count-right (now (s .entry)) (file-block n k) ⌝ }
-{
-    let count = s[sizes::BLOCK_BYTES * k + sizes::COUNT_IN_BLOCK] as usize;
     if k + 1 == n {
-        if count == 0 {
-            return false;
-        }
-        return count <= sizes::BLOCK_RECORDS;
+        return 1;
     }
-    count == sizes::BLOCK_RECORDS
+    sizes::BLOCK_RECORDS
 }
 
-// The bytes behind its records (8).
-fn unused_right(s: &[u8], n: usize, k: usize) -> bool
-    requires { ⌜ (k < n) × (block-bytes * n ≤ length (now s)) × (count-right (now s) (file-block n k) ≡ true) ⌝ }
-    ensures { λ r. ⌜ r ≡ unused-right (now (s .entry)) (file-block n k) ⌝ }
-{
-    let at = sizes::BLOCK_BYTES * k;
-    let used = sizes::RECORD_BYTES * (s[at + sizes::COUNT_IN_BLOCK] as usize);
-    ranges::is_zero(
-        s,
-        at + sizes::RECORDS_IN_BLOCK + used,
-        sizes::CHECK_IN_BLOCK - sizes::RECORDS_IN_BLOCK - used,
-    )
-}
-
-// The first of 2, 3, 4 and 8 that it fails, and 0 where it passes.
+// The first of 2, 3, 4 and 8 that block k of n fails, and 0 where it passes.
 fn block_refusal(s: &[u8], n: usize, k: usize) -> u8
-    requires { ⌜ (k < n) × (block-bytes * n ≤ length (now s)) ⌝ }
+    requires { ⌜ (k < n) × (n ≤ most-blocks) × (block-bytes * n ≤ length (now s)) ⌝ }
     ensures { λ r. ⌜ r ≡ first-failing (block-tests (now (s .entry)) (file-block n k)) ⌝ }
 {
-    if !check_right(s, n, k) {
+    let at = sizes::BLOCK_BYTES * k;
+    let first = (sizes::BLOCK_RECORDS * k) as u16;
+    if !blocks::check_right(s, at) {
         return 2;
     }
-    if !header_right(s, n, k) {
+    if !blocks::header_right(s, at, sizes::CONVERTER_KIND as usize, first) {
         return 3;
     }
-    if !count_right(s, n, k) {
+    if !blocks::count_right(s, at, least_count(n, k), sizes::BLOCK_RECORDS) {
         return 4;
     }
-    if !unused_right(s, n, k) {
+    let count = words::read_byte(s, at + sizes::COUNT_IN_BLOCK);
+    if !blocks::behind_right(s, at, sizes::RECORD_BYTES * count) {
         return 8;
     }
     0
@@ -259,7 +201,8 @@ pub fn record_count(s: &[u8]) -> usize
     ensures { λ r. ⌜ r ≡ file-count (now (s .entry)) ⌝ }
 {
     let last = block_count(s) - 1;
-    sizes::BLOCK_RECORDS * last + s[sizes::BLOCK_BYTES * last + sizes::COUNT_IN_BLOCK] as usize
+    sizes::BLOCK_RECORDS * last
+        + words::read_byte(s, sizes::BLOCK_BYTES * last + sizes::COUNT_IN_BLOCK)
 }
 
 // 4 where that is over 65,536, and 0 otherwise.

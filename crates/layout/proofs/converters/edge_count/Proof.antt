@@ -1,26 +1,23 @@
 -- `converters::edge_count` meets its contract: the record's count.
-use Prim.Native.Nat.{_+_, _*_}
-use native.Mathlib.Omega.{arith}
+use mathlib.Core.Path.{_∙_}
 use Rattle.layout.proofs.ConverterBytes.{edges-at}
 use borrow.Author.Needs.{needs}
 use Rattle.layout.proofs.converters.edge_count.Statement.{statement}
 use Rattle.layout.proofs.converters.edge_count.Tie as tie
 
-mul-result : tie.Need-mul-result
-mul-result c = search needs
+mul-read-byte : tie.Need-mul-read-byte
+mul-read-byte c = search needs
 
-add-result : tie.Need-add-result
-add-result c = search needs
+add-read-byte : tie.Need-add-read-byte
+add-read-byte c = search needs
 
-shared-slice-read-result : tie.Need-shared-slice-read-result
-shared-slice-read-result c = search needs
-
-cast-result : tie.Need-cast-result
-cast-result c = omega (arith, c .shared-slice-known .given (36 * c .before .args .c + 2))
+read-byte-requires : tie.Need-read-byte-requires
+read-byte-requires c κs = search needs
 
 returns : tie.Need-returns
-returns c = edges-at (c .before .args .s .now) (c .before .args .c) (c .before .pre)
+returns c =
+    let s = c .before .before in
+    c .read-byte .ensures ∙ edges-at (s .args .s .now) (s .args .c) (s .pre)
 
 pub edge-count-spec : {M : Type 1} → statement M
-edge-count-spec =
-    tie.close (tie.spec mul-result add-result shared-slice-read-result cast-result returns)
+edge-count-spec = tie.close (tie.spec mul-read-byte add-read-byte read-byte-requires returns)

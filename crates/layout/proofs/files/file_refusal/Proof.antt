@@ -64,8 +64,11 @@ loop-holds c = (search needs, c .count-refusal .ensures ∙ start (c .before .be
 block-refusal-requires : tie.Need-block-refusal-requires Inv-loop μ-loop
 block-refusal-requires c κs =
     let e = c .before .before .before .before in
-    let s = e .before .before .before in
-    (c .loop-test .taken, omega (arith, c .before .before .before .block-count .ensures, sized (s .args .s .now) (size-passed e) .whole))
+    let s = e .before .before .before in (
+      c .loop-test .taken,
+      omega (arith, c .before .before .before .block-count .ensures, sized (s .args .s .now) (size-passed e) .at-most),
+      omega (arith, c .before .before .before .block-count .ensures, sized (s .args .s .now) (size-passed e) .whole),
+    )
 
 earlier-requires : tie.Need-earlier-requires Inv-loop μ-loop
 earlier-requires c κs = search needs

@@ -1,5 +1,5 @@
 -- `files::record_count` meets its contract: full blocks, and the count of the last.
-use mathlib.Core.Path.{ap}
+use mathlib.Core.Path.{_∙_, ap}
 use Prim.Native.Nat.{_+_, _-_, _*_}
 use native.Mathlib.Omega.{arith}
 use Rattle.layout.specs.Bytes.{byte}
@@ -18,31 +18,30 @@ sub-last c = omega (arith, c .block-count .ensures, sized (c .before .before .ar
 mul-result : tie.Need-mul-result
 mul-result c = search needs
 
-mul-result-2 : tie.Need-mul-result-2
-mul-result-2 c = search needs
+mul-read-byte : tie.Need-mul-read-byte
+mul-read-byte c = search needs
+
+add-read-byte : tie.Need-add-read-byte
+add-read-byte c = search needs
+
+read-byte-requires : tie.Need-read-byte-requires
+read-byte-requires c κs =
+    let s = c .before .before in
+    let z = sized (s .args .s .now) (s .pre) in
+    omega (arith, c .block-count .ensures, z .some-block, z .whole)
 
 add-result : tie.Need-add-result
-add-result c = search needs
-
-shared-slice-read-result : tie.Need-shared-slice-read-result
-shared-slice-read-result c =
+add-result c =
     let s = c .before .before .before in
-    let z = sized (s .args .s .now) (s .pre) in
-    omega (arith, c .before .block-count .ensures, z .some-block, z .whole)
-
-cast-result : tie.Need-cast-result
-cast-result c = omega (arith, c .shared-slice-known2 .given (512 * (c .before .block-count .result - 1) + 1))
-
-add-result-2 : tie.Need-add-result-2
-add-result-2 c =
-    let s = c .before .before .before in
-    omega (arith, c .before .block-count .ensures, sized (s .args .s .now) (s .pre) .at-most, c .shared-slice-known2 .given (512 * (c .before .block-count .result - 1) + 1))
+    let n = c .before .block-count .result in
+    omega (arith, c .before .block-count .ensures, c .read-byte .ensures, sized (s .args .s .now) (s .pre) .at-most, c .before .before .shared-slice-known .given (512 * (n - 1) + 1))
 
 returns : tie.Need-returns
 unfolding file-count
 returns c =
     let s = c .before .before .before in
-    ap (λ n. 14 * (n - 1) + byte (s .args .s .now) (512 * (n - 1) + 1)) (c .before .block-count .ensures)
+    let n = c .before .block-count .result in
+    ap (λ x. 14 * (n - 1) + x) (c .read-byte .ensures) ∙ ap (λ n. 14 * (n - 1) + byte (s .args .s .now) (512 * (n - 1) + 1)) (c .before .block-count .ensures)
 
 pub record-count-spec : {M : Type 1} → statement M
 record-count-spec =
@@ -51,9 +50,8 @@ record-count-spec =
     block-count-requires
     sub-last
     mul-result
-    mul-result-2
+    mul-read-byte
+    add-read-byte
+    read-byte-requires
     add-result
-    shared-slice-read-result
-    cast-result
-    add-result-2
     returns)
