@@ -1,7 +1,0 @@
-// The judge.
-mod always;
-mod cells;
-mod graph;
-mod labels;
-mod sweeps;
-mod until;
