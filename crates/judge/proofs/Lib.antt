@@ -1,0 +1,13 @@
+-- Lemmas that several functions' proofs cite.
+pub mod CellLaws
+pub mod NextRecords
+pub mod DesignFacts
+pub mod ReadyFacts
+pub mod Greatest
+pub mod SweepLaws
+pub mod UntilRanks
+pub mod UntilMarks
+pub mod AlwaysFalls
+pub mod AlwaysMarks
+pub mod Formed
+pub mod TallyFrom

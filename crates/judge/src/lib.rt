@@ -1,0 +1,8 @@
+// The judge.
+mod always;
+mod cells;
+mod graph;
+mod labels;
+mod matched;
+mod sweeps;
+mod until;
