@@ -1,0 +1,7 @@
+-- Lemmas that several functions' proofs cite.
+pub mod Parts
+pub mod Pieces
+pub mod Put
+pub mod RecordBytes
+pub mod SignedBytes
+pub mod Tables

@@ -1,0 +1,43 @@
+-- Pieces of bytes one after another, made by number (`flatten` of a table): one piece more, and the length where all are of one size.
+use mathlib.Core.Path.{_≡_, sym, ap, ap₂, _∙_}
+use mathlib.Core.List.{List, [], _∷_, _++_, flatten, append-assoc, append-nil}
+use Prim.Native.Nat.{ℕ, zero, suc, _+_, _*_}
+use native.Mathlib.Nat.{add-comm, mul-zero, mul-suc}
+use native.Mathlib.Numerals.{add-one}
+use native.Mathlib.Omega.{arith}
+use lib.ListN.{length, length-append}
+use Rattle.layout.specs.Tables.{table, table-from}
+
+-- one entry more
+table-from-more : {A : Type 0} (f : ℕ → A) (i n : ℕ) → table-from f i (suc n) ≡ table-from f i n ++ (f (i + n) ∷ [])
+unfolding table-from
+table-from-more f i zero = ap (λ j. f j ∷ []) (omega arith)
+table-from-more f i (suc n) = ap (λ l. f i ∷ l) (table-from-more f (suc i) n ∙ ap (λ j. table-from f (suc i) n ++ (f j ∷ [])) (omega arith))
+
+pub table-more : {A : Type 0} (f : ℕ → A) (n : ℕ) → table (n + 1) f ≡ table n f ++ (f n ∷ [])
+unfolding table
+table-more f n = ap (table-from f 0) (add-one n) ∙ table-from-more f 0 n ∙ ap (λ j. table-from f 0 n ++ (f j ∷ [])) (omega arith)
+
+flatten-more : (ls : List (List ℕ)) (l : List ℕ) → flatten (ls ++ (l ∷ [])) ≡ flatten ls ++ l
+unfolding flatten
+flatten-more [] l = append-nil l
+flatten-more (x ∷ ls) l = ap (λ r. x ++ r) (flatten-more ls l) ∙ sym (append-assoc x (flatten ls) l)
+
+module _ (g : ℕ → List ℕ) where
+  -- one piece more
+  pub pieces-more : (n : ℕ) → flatten (table (n + 1) g) ≡ flatten (table n g) ++ g n
+  pieces-more n = ap flatten (table-more g n) ∙ flatten-more (table n g) (g n)
+
+  length-pieces-from : (w : ℕ) → ((k : ℕ) → length (g k) ≡ w) → (i n : ℕ) → length (flatten (table-from g i n)) ≡ w * n
+  unfolding flatten table-from
+  length-pieces-from w e i zero = sym (mul-zero w)
+  length-pieces-from w e i (suc n) =
+      length-append (g i) (flatten (table-from g (suc i) n))
+      ∙ ap₂ _+_ (e i) (length-pieces-from w e (suc i) n)
+      ∙ add-comm w (w * n)
+      ∙ sym (mul-suc w n)
+
+  -- pieces of one size
+  pub length-pieces : (w : ℕ) → ((k : ℕ) → length (g k) ≡ w) → (n : ℕ) → length (flatten (table n g)) ≡ w * n
+  unfolding table
+  length-pieces w e n = length-pieces-from w e 0 n

@@ -1,0 +1,107 @@
+-- Tables by number and tests over them: length, entries, and how a loop that tests one number after another finds the answer.
+use mathlib.Core.Path.{_≡_, refl, sym, ap, subst, subst⁻¹, _∙_}
+use mathlib.Core.Bool.{Bool, true, false, not, _&&_}
+use mathlib.Core.List.{List, [], _∷_}
+use Prim.Native.Nat.{ℕ, zero, suc, _+_, _<_}
+use native.Mathlib.Nat.{not-suc-le-zero}
+use native.Mathlib.Decide.{ℕ-discrete, decLt}
+use native.Mathlib.Omega.{arith}
+use lib.Dec.{T, T-not, not-T}
+use lib.ListN.{length, getD}
+use lib.Seq.{ext-getD}
+use Rattle.model.specs.Judged.{all}
+use Rattle.model.proofs.Bools.{T-true, T-false, and-both, both-and}
+use Rattle.model.proofs.Lists.{all-in, in-all, getD-in, index-in}
+use Rattle.layout.specs.Tables.{table, table-from, every, distinct}
+
+-- ---- tests as equations, which is how code tells them
+pub true-T : (b : Bool) → b ≡ true → T b
+true-T b e = subst⁻¹ T e tt
+
+pub false-T : (b : Bool) → b ≡ false → T b → ⊥
+false-T b e t = subst T e t
+
+pub and-unit : (a : Bool) → (a && true) ≡ a
+and-unit true = refl
+and-unit false = refl
+
+pub and-false : (a b : Bool) → a ≡ false → (a && b) ≡ false
+and-false a b e = ap (λ x. x && b) e
+
+-- ---- each number below n
+module _ (p : ℕ → Bool) where
+  pub each-every : (n : ℕ) → ((k : ℕ) → k < n → T (p k)) → T (every n p)
+  unfolding every
+  each-every zero f = tt
+  each-every (suc n) f = both-and (every n p) (p n) (each-every n (λ k h. f k (omega arith))) (f n (omega arith))
+
+  pub every-each : (n : ℕ) → T (every n p) → (k : ℕ) → k < n → T (p k)
+  unfolding every
+  every-each zero t k h = absurd (not-suc-le-zero h)
+  every-each (suc n) t k h =
+      let w = and-both (every n p) (p n) t in
+      elim (ℕ-discrete k n) [ yes e ↦ subst⁻¹ (λ j. T (p j)) e (w .1) | no ne ↦ every-each n (w .0) k (omega arith) ]
+
+  pub every-true : (n : ℕ) → ((k : ℕ) → k < n → p k ≡ true) → every n p ≡ true
+  every-true n f = T-true (every n p) (each-every n (λ k h. true-T (p k) (f k h)))
+
+  pub every-false : (n k : ℕ) → k < n → p k ≡ false → every n p ≡ false
+  every-false n k h e = T-false (every n p) (λ t. false-T (p k) e (every-each n t k h))
+
+-- ---- each element of a list, by index
+module _ {A : Type 0} (p : A → Bool) (d : A) where
+  pub all-true : (l : List A) → ((k : ℕ) → k < length l → p (getD l k d) ≡ true) → all p l ≡ true
+  all-true l f =
+      T-true (all p l) (in-all p l (λ a i. let w = index-in d i in true-T (p a) (ap p (sym (w .2)) ∙ f (w .0) (w .1))))
+
+  pub all-false : (l : List A) (k : ℕ) → k < length l → p (getD l k d) ≡ false → all p l ≡ false
+  all-false l k h e = T-false (all p l) (λ t. false-T (p (getD l k d)) e (all-in p (getD-in l k d h) t))
+
+-- ---- no two the same, by a test that is symmetric
+module _ (same : ℕ → ℕ → Bool) (swap : (j k : ℕ) → T (same j k) → T (same k j)) where
+  -- a lower number and a higher one
+  apart : (n : ℕ) → T (distinct n same) → (j k : ℕ) → j < k → k < n → T (same j k) → ⊥
+  unfolding distinct
+  apart n t j k h hk s =
+      T-not (same j k) (every-each (λ i. not (same i k)) k (every-each (λ k. every k (λ i. not (same i k))) n t k hk) j h) s
+
+  pub distinct-once : (n : ℕ) → T (distinct n same) → (j k : ℕ) → j < n → k < n → T (same j k) → j ≡ k
+  distinct-once n t j k hj hk s =
+      elim (ℕ-discrete j k) [
+        yes e ↦ e
+      | no ne ↦
+        absurd (elim (decLt j k) [ yes l ↦ apart n t j k l hk s | no nl ↦ apart n t k j (omega arith) hj (swap j k s) ])
+      ]
+
+  pub once-distinct : (n : ℕ) → ((j k : ℕ) → j < n → k < n → T (same j k) → j ≡ k) → T (distinct n same)
+  unfolding distinct
+  once-distinct n f =
+      each-every (λ j. every j (λ i. not (same i j))) n
+      (λ j hj. each-every (λ i. not (same i j)) j (λ i hi. not-T (same i j) (λ s. let e : i ≡ j = f i j (omega arith) hj s in omega arith)))
+
+-- ---- tables
+module _ {A : Type 0} (f : ℕ → A) where
+  length-from : (i n : ℕ) → length (table-from f i n) ≡ n
+  unfolding table-from
+  length-from i zero = refl
+  length-from i (suc n) = ap suc (length-from (suc i) n)
+
+  pub length-table : (n : ℕ) → length (table n f) ≡ n
+  unfolding table
+  length-table n = length-from 0 n
+
+  entry-from : (d : A) (i n k : ℕ) → k < n → getD (table-from f i n) k d ≡ f (i + k)
+  unfolding table-from
+  entry-from d i zero k h = absurd (not-suc-le-zero h)
+  entry-from d i (suc n) zero h = ap f (omega arith)
+  entry-from d i (suc n) (suc k) h = entry-from d (suc i) n k (omega arith) ∙ ap f (omega arith)
+
+  -- entry k
+  pub entry : (d : A) (n k : ℕ) → k < n → getD (table n f) k d ≡ f k
+  unfolding table
+  entry d n k h = entry-from d 0 n k h ∙ ap f (omega arith)
+
+-- a list is the table of its entries
+pub as-table : {A : Type 0} (d : A) (n : ℕ) (l : List A) → length l ≡ n → l ≡ table n (λ k. getD l k d)
+as-table d n l e =
+    ext-getD d l (table n (λ k. getD l k d)) (e ∙ sym (length-table (λ k. getD l k d) n)) (λ k h. sym (entry (λ j. getD l j d) d n k (omega arith)))

@@ -1,0 +1,35 @@
+-- `records::write_record` meets its contract: the header, and behind it the places.
+use mathlib.Core.Path.{ap, _∙_}
+use Prim.Native.Nat.{_+_}
+use native.Mathlib.Omega.{arith}
+use borrow.Author.Needs.{needs}
+use Rattle.layout.specs.Bytes.{put}
+use Rattle.layout.specs.Records.{header-to, places-to}
+use Rattle.layout.proofs.Put.{put-behind}
+use Rattle.layout.proofs.RecordBytes.{length-header, length-places}
+use Rattle.layout.proofs.records.write_record.Statement.{statement}
+use Rattle.layout.proofs.records.write_record.Tie as tie
+
+write-header-requires : tie.Need-write-header-requires
+write-header-requires c κs = search needs
+
+add-write-places : tie.Need-add-write-places
+add-write-places c = search needs
+
+write-places-requires : tie.Need-write-places-requires
+write-places-requires c κs = search needs
+
+same-length : tie.Need-same-length
+same-length c = search needs
+
+returns : tie.Need-returns
+returns c =
+    let a = c .before .before .before .before .before .before .before .before .before .args in
+    c .before .before .write-places .ensures
+    ∙ ap (λ l. put l (a .at + 4) (places-to (a .r))) (c .before .before .before .before .before .before .write-header .ensures)
+    ∙ put-behind (header-to (a .r)) (places-to (a .r)) (a .s .now) (a .at) 4 (length-header (a .r)) (omega (arith, c .before .before .before .before .before .before .before .before .before .pre, length-places (a .r)))
+
+pub write-record-spec : {M : Type 1} → statement M
+write-record-spec =
+    tie.close
+    (tie.spec write-header-requires add-write-places write-places-requires same-length returns)

@@ -1,0 +1,103 @@
+-- 01, "Bytes" and "When a call declines": every size and every limit, in one place.
+use Prim.Native.Nat.{ℕ}
+
+-- ---- what a design has
+abbrev pub side-count : ℕ
+side-count = 2
+
+abbrev pub most-states : ℕ
+most-states = 16
+
+abbrev pub most-formulas : ℕ
+most-formulas = 64
+
+abbrev pub most-rules : ℕ
+most-rules = 16
+
+-- propositions are from 0 to 15
+abbrev pub last-proposition : ℕ
+last-proposition = 15
+
+-- transition places of a state, and of a converter record
+abbrev pub place-count : ℕ
+place-count = 8
+
+-- events are from -63 to 63
+abbrev pub last-event : ℕ
+last-event = 63
+
+-- the search takes a design with at most so many positions
+abbrev pub most-positions : ℕ
+most-positions = 65536
+
+-- ---- records: their bytes, where a record with places has its count and its places, and the bytes of a place
+abbrev pub state-bytes : ℕ
+state-bytes = 20
+
+abbrev pub formula-bytes : ℕ
+formula-bytes = 4
+
+abbrev pub rule-bytes : ℕ
+rule-bytes = 1
+
+abbrev pub record-bytes : ℕ
+record-bytes = 36
+
+abbrev pub count-at : ℕ
+count-at = 2
+
+abbrev pub places-at : ℕ
+places-at = 4
+
+-- byte 3 of a state record, of a formula record and of a converter record is not used
+abbrev pub gap-at : ℕ
+gap-at = 3
+
+-- (event, target)
+abbrev pub move-bytes : ℕ
+move-bytes = 2
+
+-- (an event for each side, next record)
+abbrev pub transition-bytes : ℕ
+transition-bytes = 4
+
+abbrev pub next-at : ℕ
+next-at = 2
+
+-- ---- blocks: kind, record count, number of the first record (16 bits), records, check (16 bits)
+abbrev pub block-bytes : ℕ
+block-bytes = 512
+
+abbrev pub count-in-block : ℕ
+count-in-block = 1
+
+abbrev pub first-in-block : ℕ
+first-in-block = 2
+
+abbrev pub records-in-block : ℕ
+records-in-block = 4
+
+abbrev pub check-in-block : ℕ
+check-in-block = 510
+
+-- the check wraps at
+abbrev pub word-values : ℕ
+word-values = 65536
+
+abbrev pub design-bytes : ℕ
+design-bytes = 2048
+
+-- ---- converters
+-- converter records in a block, and their bytes
+abbrev pub block-records : ℕ
+block-records = 14
+
+abbrev pub block-record-bytes : ℕ
+block-record-bytes = 504
+
+abbrev pub most-records : ℕ
+most-records = 65536
+
+-- blocks that hold so many records: 4,681 full ones and one of 2 records
+abbrev pub most-blocks : ℕ
+most-blocks = 4682

@@ -1,0 +1,208 @@
+// A converter record by value.
+ghost use mathlib.Core.Path.{_≡_};
+ghost use Prim.Native.Nat.{_+_, _*_, _<_, _≤_};
+ghost use lib.ListN.{length};
+ghost use Rattle.model.specs.Judged.{same-events};
+ghost use Rattle.layout.specs.Sizes.{place-count, places-at, record-bytes, transition-bytes};
+ghost use Rattle.layout.specs.Bytes.{put};
+ghost use Rattle.layout.specs.Records.{
+  transition-at,
+  record-at,
+  transition-to,
+  header-to,
+  places-to,
+  record-to,
+  named,
+  present,
+  added,
+};
+use crate::events;
+use crate::words;
+
+// A transition place of a converter record: an event for each side, and the next record.
+pub struct Transition {
+    pub events: [i8; 2],
+    pub next: u16,
+}
+
+// The state of each side that the record names, and its transitions.
+pub struct Record {
+    pub names: [u8; 2],
+    pub count: u8,
+    pub places: [Transition; 8],
+}
+
+pub enum Outcome {
+    Added,
+    // The event pair is there already.
+    Present,
+    // All places are used.
+    Full,
+}
+
+// The record as it is after an addition.
+pub struct Addition {
+    pub outcome: Outcome,
+    pub left: Record,
+}
+
+// Place k of the converter record at `at`.
+pub fn read_transition(s: &[u8], at: usize, k: usize) -> Transition
+    requires { ⌜ (k < place-count) × (at + record-bytes ≤ length (now s)) ⌝ }
+    ensures { λ r. ⌜ r ≡ transition-at (now (s .entry)) at k ⌝ }
+{
+    let i = at + 4 + 4 * k;
+    let events = [events::read_event(s, i), events::read_event(s, i + 1)];
+    Transition {
+        events: events,
+        next: words::read_word(s, i + 2),
+    }
+}
+
+pub fn read_record(s: &[u8], at: usize) -> Record
+    requires { ⌜ at + record-bytes ≤ length (now s) ⌝ }
+    ensures { λ r. ⌜ r ≡ record-at (now (s .entry)) at ⌝ }
+{
+    let names = [s[at], s[at + 1]];
+    let count = s[at + 2];
+    let places = [
+        read_transition(s, at, 0),
+        read_transition(s, at, 1),
+        read_transition(s, at, 2),
+        read_transition(s, at, 3),
+        read_transition(s, at, 4),
+        read_transition(s, at, 5),
+        read_transition(s, at, 6),
+        read_transition(s, at, 7),
+    ];
+    Record {
+        names: names,
+        count: count,
+        places: places,
+    }
+}
+
+// Whether two event pairs are the same.
+pub fn same_events(x: [i8; 2], y: [i8; 2]) -> bool
+    ensures { λ r. ⌜ r ≡ same-events x y ⌝ }
+{
+    let same = events::same(x[0], y[0]);
+    if same {
+        return events::same(x[1], y[1]);
+    }
+    false
+}
+
+impl Record {
+    // A record that names these side states and has no transition yet.
+    pub fn new(names: [u8; 2]) -> Record
+        ensures { λ r. ⌜ r ≡ named names ⌝ }
+    {
+        let events = [0i8, 0i8];
+        let unused = Transition {
+            events: events,
+            next: 0,
+        };
+        let places = [unused; 8];
+        Record {
+            names: names,
+            count: 0,
+            places: places,
+        }
+    }
+
+    // Whether the record has a transition for these events.
+    pub fn has(self, events: [i8; 2]) -> bool
+        requires { ⌜ self .count ≤ place-count ⌝ }
+        ensures { λ r. ⌜ r ≡ present self events ⌝ }
+    {
+        let n = self.count as usize;
+        let mut k = 0;
+        // None of the first k transitions has these events.
+        while k < n {
+            let t = self.places[k];
+            let there = t.events;
+            if same_events(there, events) {
+                return true;
+            }
+            k += 1;
+        }
+        false
+    }
+
+    // One transition more, unless its events are there already or all places are used.
+    pub fn add(self, t: Transition) -> Addition
+        requires { ⌜ self .count ≤ place-count ⌝ }
+        ensures { λ r. ⌜ r ≡ added self t ⌝ }
+    {
+        let events = t.events;
+        if self.has(events) {
+            return Addition {
+                outcome: Outcome::Present,
+                left: self,
+            };
+        }
+        let n = self.count as usize;
+        if n < 8 {
+            let mut more = self;
+            more.places[n] = t;
+            more.count = (n + 1) as u8;
+            return Addition {
+                outcome: Outcome::Added,
+                left: more,
+            };
+        }
+        Addition {
+            outcome: Outcome::Full,
+            left: self,
+        }
+    }
+}
+
+// A transition place, written at `at`.
+pub fn write_transition(s: &mut [u8], at: usize, t: Transition)
+    requires { ⌜ at + transition-bytes ≤ length (now s) ⌝ }
+    ensures { λ _. ⌜ now (s .exit) ≡ put (now (s .entry)) at (transition-to t) ⌝ }
+{
+    let events = t.events;
+    let first = events::to_byte(events[0]);
+    let second = events::to_byte(events[1]);
+    s[at] = first;
+    s[at + 1] = second;
+    words::write_word(s, at + 2, t.next);
+}
+
+// The names, the count and the unused byte of a record, written at `at`.
+fn write_header(s: &mut [u8], at: usize, r: Record)
+    requires { ⌜ at + places-at ≤ length (now s) ⌝ }
+    ensures { λ _. ⌜ now (s .exit) ≡ put (now (s .entry)) at (header-to r) ⌝ }
+{
+    let names = r.names;
+    s[at] = names[0];
+    s[at + 1] = names[1];
+    s[at + 2] = r.count;
+    s[at + 3] = 0;
+}
+
+// The eight places of a record, written at `at`.
+fn write_places(s: &mut [u8], at: usize, r: Record)
+    requires { ⌜ at + transition-bytes * place-count ≤ length (now s) ⌝ }
+    ensures { λ _. ⌜ now (s .exit) ≡ put (now (s .entry)) at (places-to r) ⌝ }
+{
+    let mut k = 0;
+    // k places are written.
+    while k < 8 {
+        let t = r.places[k];
+        write_transition(s, at + 4 * k, t);
+        k += 1;
+    }
+}
+
+// A record, written at `at`.
+pub fn write_record(s: &mut [u8], at: usize, r: Record)
+    requires { ⌜ at + record-bytes ≤ length (now s) ⌝ }
+    ensures { λ _. ⌜ now (s .exit) ≡ put (now (s .entry)) at (record-to r) ⌝ }
+{
+    write_header(s, at, r);
+    write_places(s, at + 4, r);
+}
