@@ -1,4 +1,5 @@
 -- Lemmas that several functions' proofs cite.
+pub mod DesignBytes
 pub mod Parts
 pub mod Pieces
 pub mod Put

@@ -5,6 +5,7 @@ use Prim.Native.Nat.{ℕ, _+_}
 use lib.Dec.{leb}
 use lib.ListN.{getD}
 use Rattle.model.specs.Formulas.{Form, truth, falsity, prop, nprop, conj, disj, ax, au, ag}
+use Rattle.layout.specs.declared.formulas.FormulaRecord.{FormulaRecord}
 use Rattle.layout.specs.Bytes.{byte}
 
 -- kinds 1 to 9, in order; an unknown kind, which is refused (7), stands for nothing in particular
@@ -17,6 +18,13 @@ known-kind kind = leb 1 kind && leb kind 9
 
 unfoldable pub form-at : List ℕ → ℕ → Form
 form-at bs at = form-of (byte bs at) (byte bs (at + 1)) (byte bs (at + 2))
+
+-- the same record by value, and the formula that it stands for
+unfoldable pub formula-at : List ℕ → ℕ → FormulaRecord
+formula-at bs at = record { kind = byte bs at; a = byte bs (at + 1); b = byte bs (at + 2) }
+
+abbrev pub formula-of : FormulaRecord → Form
+formula-of r = form-of (r .kind) (r .a) (r .b)
 
 -- the operand bytes that a formula doesn't have
 unfoldable pub absent : Form → ℕ → ℕ → List ℕ

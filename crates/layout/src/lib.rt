@@ -1,5 +1,7 @@
 // Bytes: designs, converters and blocks, with every refusal in its order. Offsets stand here and nowhere above.
+pub mod designs;
 pub mod events;
+pub mod formulas;
 pub mod ranges;
 pub mod records;
 pub mod states;

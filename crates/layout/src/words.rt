@@ -1,8 +1,15 @@
-// 16-bit numbers, low byte first.
+// Numbers in bytes: single bytes, and 16-bit numbers, low byte first.
 ghost use mathlib.Core.Path.{_≡_};
 ghost use Prim.Native.Nat.{_+_, _<_};
 ghost use lib.ListN.{length};
-ghost use Rattle.layout.specs.Bytes.{word, put, word-bytes};
+ghost use Rattle.layout.specs.Bytes.{byte, word, put, word-bytes};
+
+pub fn read_byte(s: &[u8], at: usize) -> usize
+    requires { ⌜ at < length (now s) ⌝ }
+    ensures { λ r. ⌜ r ≡ byte (now (s .entry)) at ⌝ }
+{
+    s[at] as usize
+}
 
 pub fn read_word(s: &[u8], at: usize) -> u16
     requires { ⌜ at + 1 < length (now s) ⌝ }

@@ -1,0 +1,56 @@
+// What a design holds, by number: the states of each side, the formulas and the rules. Sides are numbered from 0.
+ghost use mathlib.Core.Path.{_≡_};
+ghost use Prim.Native.Nat.{_<_};
+ghost use lib.ListN.{length, getD};
+ghost use Rattle.layout.specs.Sizes.{side-count, most-states, most-formulas, most-rules, design-bytes};
+ghost use Rattle.layout.specs.Designs.{design, side, stored-state, stored-formula};
+use crate::formulas;
+use crate::formulas::FormulaRecord;
+use crate::states;
+use crate::states::StateRecord;
+use crate::words;
+
+// How many states side i has.
+pub fn state_count(s: &[u8], i: usize) -> usize
+    requires { ⌜ (length (now s) ≡ design-bytes) × (i < side-count) ⌝ }
+    ensures { λ r. ⌜ r ≡ length (side (design (now (s .entry))) i) ⌝ }
+{
+    words::read_byte(s, 512 * i + 1)
+}
+
+// State k of side i.
+pub fn side_state(s: &[u8], i: usize, k: usize) -> StateRecord
+    requires { ⌜ (length (now s) ≡ design-bytes) × (i < side-count) × (k < most-states) ⌝ }
+    ensures { λ r. ⌜ r ≡ stored-state (now (s .entry)) i k ⌝ }
+{
+    states::read_state(s, 512 * i + 4 + 20 * k)
+}
+
+pub fn formula_count(s: &[u8]) -> usize
+    requires { ⌜ length (now s) ≡ design-bytes ⌝ }
+    ensures { λ r. ⌜ r ≡ length (design (now (s .entry)) .forms) ⌝ }
+{
+    words::read_byte(s, 1025)
+}
+
+pub fn formula(s: &[u8], k: usize) -> FormulaRecord
+    requires { ⌜ (length (now s) ≡ design-bytes) × (k < most-formulas) ⌝ }
+    ensures { λ r. ⌜ r ≡ stored-formula (now (s .entry)) k ⌝ }
+{
+    formulas::read_formula(s, 1028 + 4 * k)
+}
+
+pub fn rule_count(s: &[u8]) -> usize
+    requires { ⌜ length (now s) ≡ design-bytes ⌝ }
+    ensures { λ r. ⌜ r ≡ length (design (now (s .entry)) .rules) ⌝ }
+{
+    words::read_byte(s, 1537)
+}
+
+// The formula number of rule k.
+pub fn rule(s: &[u8], k: usize) -> usize
+    requires { ⌜ (length (now s) ≡ design-bytes) × (k < length (design (now s) .rules)) × (k < most-rules) ⌝ }
+    ensures { λ r. ⌜ r ≡ getD (design (now (s .entry)) .rules) k 0 ⌝ }
+{
+    words::read_byte(s, 1540 + k)
+}
