@@ -1,0 +1,3 @@
+-- Laws of the lent cells.
+pub mod PutBytes
+pub mod CellLaws

@@ -1,0 +1,2 @@
+-- What the search promises, and the definitions that its functions' contracts cite.
+pub mod Cells
