@@ -1,7 +1,7 @@
 -- Tables by number and tests over them: length, entries, and how a loop that tests one number after another finds the answer.
 use mathlib.Core.Path.{_≡_, refl, sym, ap, subst, subst⁻¹, _∙_}
 use mathlib.Core.Bool.{Bool, true, false, not, _&&_}
-use mathlib.Core.List.{List, [], _∷_}
+use mathlib.Core.List.{List}
 use Prim.Native.Nat.{ℕ, zero, suc, _+_, _<_}
 use native.Mathlib.Nat.{not-suc-le-zero}
 use native.Mathlib.Decide.{ℕ-discrete, decLt}
@@ -68,9 +68,9 @@ module _ (same : ℕ → ℕ → Bool) (swap : (j k : ℕ) → T (same j k) → 
   pub distinct-once : (n : ℕ) → T (distinct n same) → (j k : ℕ) → j < n → k < n → T (same j k) → j ≡ k
   distinct-once n t j k hj hk s =
       elim (ℕ-discrete j k) [
-        yes e ↦ e
-      | no ne ↦
-        absurd (elim (decLt j k) [ yes l ↦ apart n t j k l hk s | no nl ↦ apart n t k j (omega arith) hj (swap j k s) ])
+        | yes e ↦ e
+        | no ne ↦
+            absurd (elim (decLt j k) [ yes l ↦ apart n t j k l hk s | no nl ↦ apart n t k j (omega arith) hj (swap j k s) ])
       ]
 
   pub once-distinct : (n : ℕ) → ((j k : ℕ) → j < n → k < n → T (same j k) → j ≡ k) → T (distinct n same)

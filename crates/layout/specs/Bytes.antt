@@ -7,7 +7,7 @@ use lib.IntN.{pos, negsuc}
 use lib.ListN.{length, getD, take, drop}
 use Rattle.model.specs.Events.{Event}
 use Rattle.model.specs.Judged.{all}
-use Rattle.layout.specs.Sizes.{word-values, check-in-block}
+use Rattle.layout.specs.Sizes.{word-values}
 
 -- ---- reading
 -- past the end stands 0

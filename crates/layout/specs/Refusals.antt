@@ -1,10 +1,9 @@
 -- 01, "When a call declines": the refusals as tests of the whole input, and for each caller the list of its numbers in 01's order.
-use mathlib.Core.Bool.{Bool, true, not, _&&_, cond}
-use mathlib.Core.List.{List, [], _∷_, _++_, map}
+use mathlib.Core.Bool.{Bool, _&&_, cond}
+use mathlib.Core.List.{List, [], _∷_, _++_}
 use Prim.Native.Nat.{ℕ, _+_, _*_, _%_}
 use lib.Dec.{eqb, leb}
 use lib.ListN.{length}
-use Rattle.model.specs.Designs.{Design}
 use Rattle.model.specs.Positions.{positions}
 use Rattle.model.specs.Judged.{all}
 use Rattle.layout.specs.Sizes.{most-positions, record-bytes, block-bytes, first-in-block, check-in-block, design-bytes, most-records, most-blocks}

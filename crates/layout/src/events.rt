@@ -1,7 +1,7 @@
 // Events: signed bytes, two's complement.
 ghost use mathlib.Core.Path.{_≡_};
 ghost use Prim.Native.Nat.{_<_};
-ghost use lib.ListN.{length, getD};
+ghost use lib.ListN.{length};
 ghost use Rattle.model.specs.Events.{InRange, dual, same-event};
 ghost use Rattle.layout.specs.Bytes.{byte, event-of, event-byte};
 ghost use Rattle.layout.specs.Tests.{in-range};

@@ -4,5 +4,6 @@ pub mod events;
 pub mod formulas;
 pub mod ranges;
 pub mod records;
+pub mod sizes;
 pub mod states;
 pub mod words;

@@ -1,10 +1,10 @@
 // Ranges of bytes: added up, tested for zeros, filled and copied.
 ghost use mathlib.Core.Path.{_≡_};
-ghost use mathlib.Core.List.{List};
-ghost use Prim.Native.Nat.{ℕ, _+_, _≤_};
+ghost use Prim.Native.Nat.{_+_, _≤_};
 ghost use lib.ListN.{length, replicate};
 ghost use Rattle.layout.specs.Sizes.{check-in-block};
 ghost use Rattle.layout.specs.Bytes.{part, check, all-zero, put};
+use crate::sizes;
 
 // The check of the block at `at`: its bytes 0 to 509 added up, wrapping at 65,536.
 pub fn check_of(s: &[u8], at: usize) -> u16
@@ -14,7 +14,7 @@ pub fn check_of(s: &[u8], at: usize) -> u16
     let mut acc: u16 = 0;
     let mut i = 0;
     // acc is the check of the first i bytes.
-    while i < 510 {
+    while i < sizes::CHECK_IN_BLOCK {
         acc = std::num::wrapping_add_u16(acc, s[at + i] as u16);
         i += 1;
     }

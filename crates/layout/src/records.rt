@@ -17,19 +17,20 @@ ghost use Rattle.layout.specs.Records.{
   added,
 };
 use crate::events;
+use crate::sizes;
 use crate::words;
 
 // A transition place of a converter record: an event for each side, and the next record.
 pub struct Transition {
-    pub events: [i8; 2],
+    pub events: [i8; sizes::SIDES],
     pub next: u16,
 }
 
 // The state of each side that the record names, and its transitions.
 pub struct Record {
-    pub names: [u8; 2],
+    pub names: [u8; sizes::SIDES],
     pub count: u8,
-    pub places: [Transition; 8],
+    pub places: [Transition; sizes::PLACES],
 }
 
 pub enum Outcome {
@@ -51,11 +52,11 @@ pub fn read_transition(s: &[u8], at: usize, k: usize) -> Transition
     requires { ⌜ (k < place-count) × (at + record-bytes ≤ length (now s)) ⌝ }
     ensures { λ r. ⌜ r ≡ transition-at (now (s .entry)) at k ⌝ }
 {
-    let i = at + 4 + 4 * k;
+    let i = at + sizes::PLACES_AT + sizes::TRANSITION_BYTES * k;
     let events = [events::read_event(s, i), events::read_event(s, i + 1)];
     Transition {
         events: events,
-        next: words::read_word(s, i + 2),
+        next: words::read_word(s, i + sizes::NEXT_AT),
     }
 }
 
@@ -64,7 +65,7 @@ pub fn read_record(s: &[u8], at: usize) -> Record
     ensures { λ r. ⌜ r ≡ record-at (now (s .entry)) at ⌝ }
 {
     let names = [s[at], s[at + 1]];
-    let count = s[at + 2];
+    let count = s[at + sizes::COUNT_AT];
     let places = [
         read_transition(s, at, 0),
         read_transition(s, at, 1),
@@ -83,7 +84,7 @@ pub fn read_record(s: &[u8], at: usize) -> Record
 }
 
 // Whether two event pairs are the same.
-pub fn same_events(x: [i8; 2], y: [i8; 2]) -> bool
+pub fn same_events(x: [i8; sizes::SIDES], y: [i8; sizes::SIDES]) -> bool
     ensures { λ r. ⌜ r ≡ same-events x y ⌝ }
 {
     let same = events::same(x[0], y[0]);
@@ -95,7 +96,7 @@ pub fn same_events(x: [i8; 2], y: [i8; 2]) -> bool
 
 impl Record {
     // A record that names these side states and has no transition yet.
-    pub fn new(names: [u8; 2]) -> Record
+    pub fn new(names: [u8; sizes::SIDES]) -> Record
         ensures { λ r. ⌜ r ≡ named names ⌝ }
     {
         let events = [0i8, 0i8];
@@ -103,7 +104,7 @@ impl Record {
             events: events,
             next: 0,
         };
-        let places = [unused; 8];
+        let places = [unused; sizes::PLACES];
         Record {
             names: names,
             count: 0,
@@ -112,7 +113,7 @@ impl Record {
     }
 
     // Whether the record has a transition for these events.
-    pub fn has(self, events: [i8; 2]) -> bool
+    pub fn has(self, events: [i8; sizes::SIDES]) -> bool
         requires { ⌜ self .count ≤ place-count ⌝ }
         ensures { λ r. ⌜ r ≡ present self events ⌝ }
     {
@@ -143,7 +144,7 @@ impl Record {
             };
         }
         let n = self.count as usize;
-        if n < 8 {
+        if n < sizes::PLACES {
             let mut more = self;
             more.places[n] = t;
             more.count = (n + 1) as u8;
@@ -169,7 +170,7 @@ pub fn write_transition(s: &mut [u8], at: usize, t: Transition)
     let second = events::to_byte(events[1]);
     s[at] = first;
     s[at + 1] = second;
-    words::write_word(s, at + 2, t.next);
+    words::write_word(s, at + sizes::NEXT_AT, t.next);
 }
 
 // The names, the count and the unused byte of a record, written at `at`.
@@ -180,8 +181,8 @@ fn write_header(s: &mut [u8], at: usize, r: Record)
     let names = r.names;
     s[at] = names[0];
     s[at + 1] = names[1];
-    s[at + 2] = r.count;
-    s[at + 3] = 0;
+    s[at + sizes::COUNT_AT] = r.count;
+    s[at + sizes::GAP_AT] = 0;
 }
 
 // The eight places of a record, written at `at`.
@@ -191,9 +192,9 @@ fn write_places(s: &mut [u8], at: usize, r: Record)
 {
     let mut k = 0;
     // k places are written.
-    while k < 8 {
+    while k < sizes::PLACES {
         let t = r.places[k];
-        write_transition(s, at + 4 * k, t);
+        write_transition(s, at + sizes::TRANSITION_BYTES * k, t);
         k += 1;
     }
 }
@@ -204,5 +205,5 @@ pub fn write_record(s: &mut [u8], at: usize, r: Record)
     ensures { λ _. ⌜ now (s .exit) ≡ put (now (s .entry)) at (record-to r) ⌝ }
 {
     write_header(s, at, r);
-    write_places(s, at + 4, r);
+    write_places(s, at + sizes::PLACES_AT, r);
 }

@@ -5,6 +5,7 @@ ghost use lib.ListN.{length};
 ghost use Rattle.layout.specs.Sizes.{place-count, state-bytes};
 ghost use Rattle.layout.specs.States.{place-at, state-at};
 use crate::events;
+use crate::sizes;
 use crate::words;
 
 // A transition place of a state.
@@ -16,7 +17,7 @@ pub struct Place {
 pub struct StateRecord {
     pub label: u16,
     pub count: u8,
-    pub places: [Place; 8],
+    pub places: [Place; sizes::PLACES],
 }
 
 // Place k of the state record at `at`.
@@ -24,7 +25,7 @@ pub fn read_place(s: &[u8], at: usize, k: usize) -> Place
     requires { ⌜ (k < place-count) × (at + state-bytes ≤ length (now s)) ⌝ }
     ensures { λ r. ⌜ r ≡ place-at (now (s .entry)) at k ⌝ }
 {
-    let i = at + 4 + 2 * k;
+    let i = at + sizes::PLACES_AT + sizes::MOVE_BYTES * k;
     let e = events::read_event(s, i);
     Place {
         event: e,
@@ -37,7 +38,7 @@ pub fn read_state(s: &[u8], at: usize) -> StateRecord
     ensures { λ r. ⌜ r ≡ state-at (now (s .entry)) at ⌝ }
 {
     let label = words::read_word(s, at);
-    let count = s[at + 2];
+    let count = s[at + sizes::COUNT_AT];
     let places = [
         read_place(s, at, 0),
         read_place(s, at, 1),

@@ -1,5 +1,5 @@
 -- `events::to_event` meets its contract: below 128 the byte is the number, and from 128 on -1 - (255 - b) is.
-use mathlib.Core.Path.{_≡_, refl, ap, _∙_}
+use mathlib.Core.Path.{_≡_, ap, _∙_}
 use Prim.Native.Nat.{_-_}
 use native.Mathlib.Omega.{arith}
 use borrow.Author.Needs.{needs}

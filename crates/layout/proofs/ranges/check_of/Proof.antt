@@ -1,9 +1,8 @@
 -- `ranges::check_of` meets its contract. The invariant: acc is the check of the first i bytes.
 use mathlib.Core.Path.{_≡_, refl, ap, _∙_}
-use Prim.Native.Nat.{ℕ, _+_, _-_, _%_, _≤_}
+use Prim.Native.Nat.{_+_, _-_, _%_, _≤_}
 use native.Mathlib.Omega.{arith}
 use borrow.Author.Needs.{needs}
-use lib.ListN.{length}
 use Rattle.layout.specs.Bytes.{byte, part, sum, check}
 use Rattle.layout.proofs.Parts.{check-more}
 use Rattle.layout.proofs.ranges.check_of.Statement.{statement}

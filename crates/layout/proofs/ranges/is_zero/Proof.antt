@@ -1,12 +1,11 @@
 -- `ranges::is_zero` meets its contract. The invariant: the first i bytes are zero.
-use mathlib.Core.Path.{_≡_, refl, sym, ap, _∙_}
+use mathlib.Core.Path.{_≡_, sym}
 use Prim.Native.Nat.{ℕ, _+_, _-_, _<_, _≤_}
 use native.Mathlib.Nat.{not-suc-le-zero}
 use native.Mathlib.Omega.{arith}
 use borrow.Author.Count.{below-more}
 use borrow.Author.Needs.{needs}
-use lib.ListN.{length}
-use Rattle.layout.specs.Bytes.{byte, part, all-zero}
+use Rattle.layout.specs.Bytes.{byte}
 use Rattle.layout.proofs.Parts.{zeros, not-zeros}
 use Rattle.layout.proofs.ranges.is_zero.Statement.{statement}
 use Rattle.layout.proofs.ranges.is_zero.Tie as tie

@@ -1,0 +1,59 @@
+// Every size and every limit, in one place, as in specs/Sizes.
+
+// What a design has.
+pub const SIDES: usize = 2;
+
+pub const MOST_STATES: usize = 16;
+
+pub const MOST_FORMULAS: usize = 64;
+
+pub const MOST_RULES: usize = 16;
+
+pub const LAST_PROPOSITION: u8 = 15;
+// Transition places of a state, and of a converter record.
+pub const PLACES: usize = 8;
+
+pub const MOST_POSITIONS: u32 = 65536;
+
+// Records: their bytes, where a record with places has its count, its unused byte and its places, and the bytes of a place.
+pub const STATE_BYTES: usize = 20;
+
+pub const FORMULA_BYTES: usize = 4;
+
+pub const RULE_BYTES: usize = 1;
+
+pub const RECORD_BYTES: usize = 36;
+
+pub const COUNT_AT: usize = 2;
+
+pub const GAP_AT: usize = 3;
+
+pub const PLACES_AT: usize = 4;
+
+pub const MOVE_BYTES: usize = 2;
+
+pub const TRANSITION_BYTES: usize = 4;
+
+pub const NEXT_AT: usize = 2;
+
+// Blocks.
+pub const BLOCK_BYTES: usize = 512;
+
+pub const COUNT_IN_BLOCK: usize = 1;
+
+pub const FIRST_IN_BLOCK: usize = 2;
+
+pub const RECORDS_IN_BLOCK: usize = 4;
+
+pub const CHECK_IN_BLOCK: usize = 510;
+
+pub const DESIGN_BYTES: usize = 2048;
+
+// Converters.
+pub const BLOCK_RECORDS: usize = 14;
+
+pub const BLOCK_RECORD_BYTES: usize = 504;
+
+pub const MOST_RECORDS: usize = 65536;
+
+pub const MOST_BLOCKS: usize = 4682;
