@@ -1,2 +1,4 @@
 -- What the search promises, and the definitions that its functions' contracts cite.
 pub mod Cells
+pub mod Geometry
+pub mod State
