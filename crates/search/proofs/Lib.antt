@@ -1,3 +1,4 @@
 -- Laws of the lent cells.
 pub mod PutBytes
 pub mod CellLaws
+pub mod CellWrites
