@@ -6,10 +6,10 @@ use mathlib.Core.Option.{none, some}
 use Prim.Native.Nat.{ℕ, zero, suc, _<_}
 use native.Mathlib.Omega.{arith}
 use native.Mathlib.Nat.{not-suc-le-zero}
-use lib.Dec.{T, eqb→eq, eqb-refl}
+use lib.Dec.{T, eqb-refl}
 use lib.ListN.{length, getD}
 use lib.IntN.{pos, negsuc}
-use Rattle.model.specs.Events.{Event, shown, shows, same-event}
+use Rattle.model.specs.Events.{Event, shown, shows}
 use Rattle.model.specs.Converters.{Edge, no-edge, side-events}
 use Rattle.model.specs.Runs.{fits, all-fit, first-fit}
 use Rattle.model.proofs.SameEvent.{same-event-eq}

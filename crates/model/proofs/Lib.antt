@@ -19,6 +19,7 @@ pub mod Labelling
 pub mod Right
 pub mod Rounds
 pub mod Labels
+pub mod Bounded
 pub mod Maps
 -- sides and matched converters
 pub mod SameEvent
@@ -28,6 +29,7 @@ pub mod JointMoves
 pub mod OneEach
 pub mod TwoSides
 pub mod Alone
+pub mod AloneLabels
 pub mod Tally
 pub mod MatchedTest
 pub mod Judged

@@ -1,7 +1,7 @@
 -- One tick of the sides: their tables allow exactly what some joint move shows, and by its events the plain sides move where it leads.
 use mathlib.Core.Path.{_≡_, refl, sym, ap, ap₂, subst, _∙_}
 use mathlib.Core.Bool.{cond}
-use mathlib.Core.Logic.{inl, inr, ⊎-elim}
+use mathlib.Core.Logic.{⊎-elim}
 use mathlib.Core.List.{List, [], _∷_, List·Memᴰ as In, List·Memᴰ·head as here, List·Memᴰ·tail as there, List·Memᴰ·cases-cons as in-cases}
 use Prim.Native.Nat.{ℕ}
 use native.Mathlib.Omega.{arith}
@@ -10,7 +10,7 @@ use lib.IntN.{pos, negsuc}
 use Rattle.model.specs.Events.{Event, shown, shows, same-event}
 use Rattle.model.specs.Sides.{Move, State, Side, state}
 use Rattle.model.specs.Joined.{Names, JointMove}
-use Rattle.model.specs.Runs.{target-for, moved, Allows, AllAllow, DeliveredTo, AllDelivered}
+use Rattle.model.specs.Runs.{target-for, moved, Allows, sends, waits, AllAllow, DeliveredTo, AllDelivered}
 use Rattle.model.proofs.Bools.{T-dec, T-true, T-false}
 use Rattle.model.proofs.StateKinds.{shown-sent, shown-unsent}
 use Rattle.model.proofs.Joint.{AllRegular}
@@ -19,13 +19,13 @@ use Rattle.model.proofs.SameEvent.{same-event-eq, same-event-refl}
 -- ---- one side
 -- an allowed event is what some move shows
 allowed-move : (q : State) (x : Event) → Allows q x → (e : Event) × (t : ℕ) × In (record { event = e; target = t }) (q .moves) × (shown e ≡ x)
-allowed-move q x (inl a) = (x, a .1 .0, a .1 .1, shown-sent x (a .0))
-allowed-move q x (inr a) = (a .1 .0 .event, a .1 .0 .target, a .1 .1, shown-unsent (a .1 .0 .event) (a .1 .2) ∙ sym (a .0))
+allowed-move q x (sends h t i) = (x, t, i, shown-sent x h)
+allowed-move q x (waits e m i h) = (m .event, m .target, i, shown-unsent (m .event) h ∙ sym e)
 
 -- what a move shows is allowed
 move-allowed : (q : State) (e : Event) (t : ℕ) → In (record { event = e; target = t }) (q .moves) → Allows q (shown e)
-move-allowed q (pos n) t i = inr (refl, (record { event = pos n; target = t }, i, tt))
-move-allowed q (negsuc n) t i = inl (tt, (t, i))
+move-allowed q (pos n) t i = waits refl (record { event = pos n; target = t }) i tt
+move-allowed q (negsuc n) t i = sends tt t i
 
 -- the event of a move, delivered to a side that shows what the move shows
 move-delivered : (q : State) (e : Event) (t : ℕ) → In (record { event = e; target = t }) (q .moves) → DeliveredTo q (shown e) e

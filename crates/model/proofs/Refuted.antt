@@ -16,7 +16,7 @@ use Rattle.model.specs.Converters.{Converter, node, side-events, Matched
 use Rattle.model.specs.Formulas.{Form, truth, falsity, prop, nprop, conj, disj, ax, au, ag, LowerForm}
 use Rattle.model.specs.Designs.{Design, WellFormed, NoneWorks}
 use Rattle.model.specs.Positions.{any}
-use Rattle.model.specs.Judged.{all, same-events, same-states, Joint, joint-moves, Kripke, kripke, labels}
+use Rattle.model.specs.Judged.{all, same-events, same-states, Joint, joint-moves, Kripke, kripke}
 use Rattle.model.proofs.Bools.{and-both, T-true}
 use Rattle.model.proofs.Lists.{all-in, any-in, not-all, in-map}
 use Rattle.model.proofs.Labelling.{UntilAt}
@@ -24,8 +24,8 @@ use Rattle.model.proofs.Right.{LabelAt, Labelled}
 use Rattle.model.proofs.Joint.{AllRegular, all-regular}
 use Rattle.model.proofs.Graph.{Serial}
 use Rattle.model.proofs.Alone.{next-of, serial, answers}
+use Rattle.model.proofs.AloneLabels.{labelling, right-labels}
 use Rattle.model.proofs.JointMoves.{same-events-eq, eq-same-events, same-states-eq, joint-listed, listed-joint}
-use Rattle.model.proofs.Labels.{labels-right}
 use Rattle.model.proofs.Judged.{kept-at-start, label-keeps}
 use Rattle.model.proofs.Ways.{ways, ways-all, Due, way, way-all}
 
@@ -210,7 +210,6 @@ module _ (D : Design) (wf : WellFormed D) (C : Converter) (m : Matched (D .sides
 -- a refuted design has no converter, of whatever size
 pub refuted-none : (D : Design) → WellFormed D → (R : Refutation) → T (refutes D R) → NoneWorks D
 refuted-none D wf R t C m =
-    let K = kripke (D .sides) C in
-    let right = labels-right K (serial (D .sides) C m) (D .forms) (wf .lower) in
-    let w = not-all (kept-at-start D C) (D .rules) (refutes-right D wf C m (labels K (D .forms)) right R t) in
+    let right = right-labels (D .sides) (D .forms) (wf .lower) C m in
+    let w = not-all (kept-at-start D C) (D .rules) (refutes-right D wf C m (labelling (D .sides) (D .forms) C) right R t) in
     (w .0, w .1, λ k. w .2 (label-keeps D wf C m (w .0) (wf .rules-there (w .0) (w .1)) .1 k))

@@ -76,19 +76,20 @@ module _ (Ss : List Side) (reg : AllRegular Ss) (C : Converter) (m : Matched Ss 
 -- a call, from the tick that it makes
 call-right : (Ss : List Side) (R : Running) (ss : List ℕ) (xs : List Event) (t : Ticked) → Done Ss (R .converter) ss xs t ⊎ Refused Ss (R .runner) ss xs t
     → CallRight Ss ss R (tick-call xs) (t .answer) (record { converter = R .converter; runner = t .runner })
-call-right Ss R ss xs t (inl d) = (((λ a. d .allowed), (λ a. d .answered)), inl (d .answered), (λ a. d .delivers))
-call-right Ss R ss xs t (inr w) = (
-  ((λ a. absurd (never a)), (λ a. absurd (w .not-allowed a))),
-  inr (ap (λ (u : Ticked). u .answer) (w .unmoved), ap (λ (u : Ticked). record { converter = R .converter; runner = u .runner }) (w .unmoved)),
-  (λ a. absurd (never a)),
-)
+call-right Ss R ss xs t (inl d) = record { done-exactly = ((λ a. d .allowed), (λ a. d .answered)); otherwise-17 = inl (d .answered); delivers = λ a. d .delivers }
+call-right Ss R ss xs t (inr w) =
+    record {
+      done-exactly = ((λ a. absurd (never a)), (λ a. absurd (w .not-allowed a)));
+      otherwise-17 = inr (ap (λ (u : Ticked). u .answer) (w .unmoved), ap (λ (u : Ticked). record { converter = R .converter; runner = u .runner }) (w .unmoved));
+      delivers = λ a. absurd (never a);
+    }
   where
     never : t .answer ≡ done → ⊥
     never a = let b : t .answer ≡ refused 17 = ap (λ (u : Ticked). u .answer) (w .unmoved) in let z : _≡_ {A = ℕ} 0 1 = cc in omega arith
 
 -- the runner that it leaves names the states of the plain sides
 in-step : (Ss : List Side) (R : Running) (ss : List ℕ) (xs : List Event) (t : Ticked) → InStep R ss → Done Ss (R .converter) ss xs t ⊎ Refused Ss (R .runner) ss xs t
-    → InStep (record { converter = R .converter; runner = t .runner }) (plain Ss ss (t .answer) (t .runner .delivered))
+    → InStep (record { converter = R .converter; runner = t .runner }) (plain Ss ss (tick-call xs) (t .answer) (t .runner .delivered))
 unfolding plain
 in-step Ss R ss xs t h (inl d) = rw (d .answered) (record { there = d .there; names = d .names })
 in-step Ss R ss xs t h (inr w) = rw (w .unmoved) h
@@ -101,7 +102,7 @@ every-run Ss reg R m ss h (tick-call xs ∷ cs) =
     let t = ticked (R .converter) (R .runner) xs in
     let w = tick-right Ss reg (R .converter) m (R .runner) ss (h .there) (h .names) xs in
     let R′ : Running = record { converter = R .converter; runner = t .runner } in
-    (h, call-right Ss R ss xs t w, every-run Ss reg R′ m (plain Ss ss (t .answer) (t .runner .delivered)) (in-step Ss R ss xs t h w) cs)
+    (h, call-right Ss R ss xs t w, every-run Ss reg R′ m (plain Ss ss (tick-call xs) (t .answer) (t .runner .delivered)) (in-step Ss R ss xs t h w) cs)
 
 -- from the start: converter state 0, any delivered events, and every plain side in state 0
 pub every-run-from-start : (Ss : List Side) → AllRegular Ss → (C : Converter) → Matched Ss C → (es : List Event) (cs : List Call)

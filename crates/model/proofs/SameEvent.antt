@@ -1,6 +1,5 @@
 -- The test of two events for equality holds of equal events alone.
 use mathlib.Core.Path.{_≡_, ap}
-use Prim.Native.Nat.{ℕ}
 use lib.Dec.{T, eqb→eq, eqb-refl}
 use lib.IntN.{pos, negsuc}
 use Rattle.model.specs.Events.{Event, same-event}

@@ -1,17 +1,17 @@
 -- The method decides: every design of well-formed sides and formulas has a converter that works, with at most as many states as there are positions, or
 -- none works. A set of positions starts full and loses, turn by turn, what the last stage lacks. It covers every matched converter all the time; when it
 -- lacks the start, none works, and when nothing is lost, its positions win.
-use mathlib.Core.Path.{_≡_, refl, sym, ap, ap₂, subst, subst⁻¹, _∙_}
+use mathlib.Core.Path.{_≡_, sym, ap, subst, subst⁻¹, _∙_}
 use mathlib.Core.Bool.{Bool, true, false, _&&_}
-use mathlib.Core.Logic.{_⊎_, inl, inr, ⊎-elim}
-use mathlib.Core.List.{List, [], _∷_, _++_, List·Memᴰ as In, Memᴰ·append-left, Memᴰ·append-right, List·Memᴰ·append-cases}
-use Prim.Native.Nat.{ℕ, zero, suc, _+_, _*_, _^_, _≤_, _<_, max}
+use mathlib.Core.Logic.{⊎-elim}
+use mathlib.Core.List.{List, _∷_, _++_, List·Memᴰ as In, Memᴰ·append-left, Memᴰ·append-right, List·Memᴰ·append-cases}
+use Prim.Native.Nat.{ℕ, zero, suc, _+_, _*_, _^_, _≤_, _<_}
 use native.Mathlib.Omega.{arith}
 use native.Mathlib.Nat.{not-suc-le-zero, mul-assoc}
 use lib.Dec.{T}
-use lib.ListN.{length, getD, take, drop, length-append, take-append-drop}
+use lib.ListN.{length, take, drop, length-append, take-append-drop}
 use lib.Seq.{drop-cons}
-use Rattle.model.specs.Joined.{Names, zeros}
+use Rattle.model.specs.Joined.{zeros}
 use Rattle.model.specs.Converters.{Converter}
 use Rattle.model.specs.Designs.{Design, WellFormed, Works, NoneWorks}
 use Rattle.model.specs.Positions.{count, joint-count, kept-count, positions}
@@ -21,7 +21,7 @@ use Rattle.model.proofs.Finite.{upto, in-upto, of-upto, tabulate-length
 use Rattle.model.proofs.Rounds.{within-or}
 use Rattle.model.proofs.Joint.{AllRegular, all-regular}
 use Rattle.model.proofs.Untils.{Untils, untils}
-use Rattle.model.proofs.Masks.{Masks, free-masks, InRange, mask-of-lt, rules-mask, rule-in-mask, in-mask-rule}
+use Rattle.model.proofs.Masks.{Masks, free-masks, MaskInRange, mask-of-lt, rules-mask, rule-in-mask, in-mask-rule}
 use Rattle.model.proofs.Game.{Set}
 use Rattle.model.proofs.Covers.{Covers, covers-all, covers-next, covers-both}
 use Rattle.model.proofs.NoneWorks.{none-works}
@@ -84,17 +84,17 @@ module _ (D : Design) (wf : WellFormed D) where
   abbrev goal : ℕ
   goal = rules-mask D
 
-  goal-ok : InRange D (λ f. false) (rules-mask D)
+  goal-ok : MaskInRange D (λ f. false) (rules-mask D)
   unfolding rules-mask
   goal-ok = (mask-of-lt D _, λ f t. absurd t)
 
   abbrev ms : List ℕ
   ms = rotated (2 ^ kept-count D) goal
 
-  sound : (m : ℕ) → In m ms → InRange D (λ f. false) m
+  sound : (m : ℕ) → In m ms → MaskInRange D (λ f. false) m
   sound m i = (of-rotated (2 ^ kept-count D) goal m i, λ f t. absurd t)
 
-  complete : (m : ℕ) → InRange D (λ f. false) m → In m ms
+  complete : (m : ℕ) → MaskInRange D (λ f. false) m → In m ms
   complete m h = in-rotated (2 ^ kept-count D) goal m (h .0)
 
   abbrev outside : Position ℕ

@@ -1,37 +1,33 @@
 -- One turn of the method. From a set X: first the positions from which the until at hand is discharged by a step into X, then, stage by stage, those from
 -- which it waits for one of the stage before. The last stage is closed over X, and its positions have a step, with the stage as their rank.
-use mathlib.Core.Path.{_≡_, refl, subst, subst⁻¹}
-use mathlib.Core.Bool.{Bool, true, false, _||_}
+use mathlib.Core.Path.{_≡_, refl}
+use mathlib.Core.Bool.{_||_}
 use mathlib.Core.Logic.{_⊎_, inl, inr, ⊎-elim}
 use mathlib.Core.List.{List, List·Memᴰ as In}
 use Prim.Native.Nat.{ℕ, zero, suc, _≤_, _<_}
 use native.Mathlib.Omega.{arith}
 use lib.Dec.{T}
 use lib.ListN.{length}
-use Rattle.model.specs.Events.{Event, shows}
 use Rattle.model.specs.Sides.{Side}
-use Rattle.model.specs.Joined.{Names, JointMove, labelled}
+use Rattle.model.specs.Joined.{Names, labelled}
 use Rattle.model.specs.Formulas.{Form}
 use Rattle.model.specs.Judged.{Joint, joint-moves}
 use Rattle.model.proofs.Bools.{or-either, or-left, or-right, T-dec}
 use Rattle.model.proofs.Finite.{decide, decided, deciding, both?, not?, implies?, some?, each?, upto, in-upto, of-upto}
 use Rattle.model.proofs.Value.{value}
-use Rattle.model.proofs.Rounds.{Within, Growing, steady, first, first-le, first-holds}
+use Rattle.model.proofs.Rounds.{Growing, steady, first, first-le, first-holds}
 use Rattle.model.proofs.Joint.{AllRegular, targets-there}
 use Rattle.model.proofs.JointMoves.{joint-listed, listed-joint}
 use Rattle.model.proofs.Untils.{turn, Untils, turn-lt}
 use Rattle.model.proofs.Masks.{Masks}
-use Rattle.model.proofs.Game.{Set, Can, Meets, Discharged, Choice, Closed, discharged?}
+use Rattle.model.proofs.Game.{Set, Can, Meets, Discharged, Closed, discharged?}
 use Rattle.model.proofs.Shows.{show, same-show?}
 use Rattle.model.proofs.Places.{Position, places, place, listed, numbered, every-place}
-use Rattle.model.proofs.Winning.{Answered, Step, Winning}
+use Rattle.model.proofs.Winning.{Step, Winning}
 
 module _ (Ss : List Side) (fs : List Form) (M : Masks fs) (U : Untils fs) where
   -- ---- the parts of a step are decided
-  -- over the listed joint moves
-  abbrev Listable : Set Ss fs M U → List ℕ → M .Mask → ℕ → Type 0
-  Listable X s n i = (j : Joint) → In j (joint-moves Ss s) → (k : Joint) × In k (joint-moves Ss s) × ((show k ≡ show j) × T (X (k .targets) n i))
-
+  -- the moves, over the listed joint moves
   can? : (X : Set Ss fs M U) (s : List ℕ) (n : M .Mask) (i : ℕ) → Dec (Can Ss fs M U X s n i)
   can? X s n i =
       elim (each? (λ j. (k : Joint) × In k (joint-moves Ss s) × ((show k ≡ show j) × T (X (k .targets) n i))) (λ j. some? (λ k. (show k ≡ show j) × T (X (k .targets) n i)) (λ k. both? (same-show? (show k) (show j)) (T-dec (X (k .targets) n i))) (joint-moves Ss s)) (joint-moves Ss s)) [
@@ -39,6 +35,7 @@ module _ (Ss : List Side) (fs : List Form) (M : Masks fs) (U : Untils fs) where
         | no n′ ↦ no (λ g. n′ (λ j h. let w = g (j .events) (j .targets) (listed-joint Ss s j h) in (record { events = w .0; targets = w .1 }, joint-listed Ss s (w .0) (w .1) (w .2), (w .3, w .4))))
       ]
 
+  -- the values, over the formulas
   meets? : (s : List ℕ) (m n : M .Mask) → Dec (Meets Ss fs M U s m n)
   meets? s m n =
       elim (each? (λ f. T (M .bit m f) → T (value fs (labelled Ss s) (M .bit n) f)) (λ f. implies? (T-dec (M .bit m f)) (T-dec (value fs (labelled Ss s) (M .bit n) f))) (upto (length fs))) [

@@ -1,17 +1,17 @@
--- The kind of a state, and what the theorems use of a side. `regular` is the one place where refusal 6 is used: of a delayed state no theorem needs
--- that its tick returns to itself.
+-- The kind of a state, and what the theorems use of a side. `regular` is the one place that uses refusal 6, that each state of a side has a kind; and of
+-- a delayed state no theorem uses that its tick returns to itself.
 use mathlib.Core.Path.{_≡_, refl, sym, ap, ap₂, subst, subst⁻¹, _∙_}
-use mathlib.Core.Bool.{Bool, true, false, not, _||_, cond}
+use mathlib.Core.Bool.{Bool, true, false, not, cond}
 use mathlib.Core.Logic.{_⊎_, inl, inr, ⊎-elim}
 use mathlib.Core.List.{List, [], _∷_, List·Memᴰ as In, List·Memᴰ·head as here, List·Memᴰ·tail as there, List·Memᴰ·cases-cons as in-cases}
-use Prim.Native.Nat.{ℕ, zero, suc, _≤_, _<_}
+use Prim.Native.Nat.{ℕ, _<_}
 use native.Mathlib.Omega.{arith}
 use lib.IntN.{pos, negsuc}
-use lib.Dec.{T, T-not, not-T, eqb, eqb→eq}
+use lib.Dec.{T, T-not, eqb}
 use lib.ListN.{length, getD}
 use Rattle.model.specs.Events.{Event, tick, sent, shown}
-use Rattle.model.specs.Sides.{Move, State, Side, state, no-move, Kind, input, output-only, delayed, IsInput, IsOutputOnly, IsDelayed, IsKind, any-sent, kind, WellFormedState, HasKind, WellFormedSide}
-use Rattle.model.proofs.Bools.{or-either, or-left, or-right, T-dec, T-false, T-true}
+use Rattle.model.specs.Sides.{Move, State, Side, state, no-move, Kind, input, output-only, delayed, IsInput, IsOutputOnly, IsDelayed, IsKind, any-sent, kind, WellFormedSide}
+use Rattle.model.proofs.Bools.{or-either, or-left, or-right, T-false, T-true}
 use Rattle.model.proofs.Lists.{index-in, first-in}
 
 -- ---- `any-sent`
@@ -129,14 +129,14 @@ regular S wf =
           let f = wf .each s hs in
           let k = wf .kinds s hs in
           record {
-            some-move = first-in (state S s .moves) (f .some-move);
+            some-move = first-in (q .moves) (f .some-move);
             inside = f .inside;
             by-event = λ m w i j e.
                 let a = index-in no-move i in
                 let b = index-in no-move j in
                 let same : a .0 ≡ b .0 = f .once (a .0) (b .0) (a .1) (b .1) (ap (λ (x : Move). x .event) (a .2) ∙ e ∙ sym (ap (λ (x : Move). x .event) (b .2))) in
-                sym (a .2) ∙ ap (λ (x : ℕ). getD (state S s .moves) x no-move) same ∙ b .2;
-            by-show = show-known (k .0) s (state S s) (k .1);
-            one-show = one-shown (k .0) s (state S s) (k .1);
+                sym (a .2) ∙ ap (λ (x : ℕ). getD (q .moves) x no-move) same ∙ b .2;
+            by-show = show-known (k .0) s q (k .1);
+            one-show = one-shown (k .0) s q (k .1);
           };
     }

@@ -1,6 +1,7 @@
--- 01, "What a converter may do": a converter is any finite list of states with any number of transitions; which ones are matched to the sides.
+-- 01, "What a converter may do": a converter is any finite list of states with any number of transitions;
+-- which ones are matched to the sides.
 use mathlib.Core.Path.{_≡_}
-use mathlib.Core.Bool.{Bool, true, false, _||_, cond}
+use mathlib.Core.Bool.{Bool, true, false, cond}
 use mathlib.Core.List.{List, [], _∷_, List·Memᴰ as In}
 use Prim.Native.Nat.{ℕ, _≤_, _<_}
 use lib.ListN.{length, getD}
@@ -8,12 +9,12 @@ use Rattle.model.specs.Events.{Event, duals, shows}
 use Rattle.model.specs.Sides.{Side, Kind, input, output-only, delayed}
 use Rattle.model.specs.Joined.{Names, zeros, kinds-of, JointMove}
 
--- a transition of a converter: an event for each side, and the number of the next converter state
+-- 01: the transition of a converter state. An event for each side, and the number of the next converter state.
 pub record Edge : Type 0 where
   pub events : List Event
   pub next : ℕ
 
--- a converter state: the side states that it names, and its transitions
+-- 01: a converter state. The side states that it names, and its transitions.
 pub record Node : Type 0 where
   pub names : List ℕ
   pub edges : List Edge
@@ -86,9 +87,11 @@ pub record Obeys (Ss : List Side) (C : Converter) (n : Node) : Type 0 where
   pub has-states : Names Ss (n .names)
   -- at least one transition, and no tuple of events twice
   pub some-edge : 1 ≤ length (n .edges)
-  pub once : (j k : ℕ) → j < length (n .edges) → k < length (n .edges) → edge n j .events ≡ edge n k .events → j ≡ k
+  pub once : (j k : ℕ) → j < length (n .edges) → k < length (n .edges)
+      → edge n j .events ≡ edge n k .events → j ≡ k
   -- a transition is the dual of a joint move, and the next converter state names where that leads
-  pub follows : (e : Edge) → In e (n .edges) → (e .next < length C) × JointMove Ss (n .names) (side-events e) (node C (e .next) .names)
+  pub follows : (e : Edge) → In e (n .edges)
+      → (e .next < length C) × JointMove Ss (n .names) (side-events e) (node C (e .next) .names)
   pub does-duty : Fulfils (duty (kinds-of Ss (n .names))) Ss n
 
 pub record Matched (Ss : List Side) (C : Converter) : Type 0 where

@@ -1,7 +1,8 @@
--- A design: sides, formulas and rules; the converter and the sides moving together; what it is for a converter to work, and for none to.
+-- A design: sides, formulas and rules; the converter and the sides moving together; what it is for a converter to work, and for
+-- none to work.
 use mathlib.Core.Path.{_≡_}
 use mathlib.Core.List.{List, List·Memᴰ as In}
-use Prim.Native.Nat.{ℕ, _≤_, _<_}
+use Prim.Native.Nat.{ℕ, _<_}
 use lib.ListN.{length}
 use Rattle.model.specs.Actl.{System, Holds}
 use Rattle.model.specs.Sides.{Side, WellFormedSide}
@@ -15,7 +16,7 @@ pub record Design : Type 0 where
   pub forms : List Form
   pub rules : List ℕ
 
--- refusals 5 to 7, with the limits that 01 sets beside them
+-- Refusals 5 to 7, and 1 to 16 states a side (refusal 4); 01's limits on the number of formulas and rules aren't needed here.
 pub record WellFormed (D : Design) : Type 0 where
   pub each-side : (S : Side) → In S (D .sides) → WellFormedSide S
   pub lower : Lower (D .forms)
@@ -31,7 +32,8 @@ pub record Together : Type 0 where
 abbrev pub together : List Side → Converter → System
 together Ss C = record {
   State = Together;
-  Step = λ x y. (e : Edge) × In e (node C (x .at) .edges) × (e .next ≡ y .at) × JointMove Ss (x .sides) (side-events e) (y .sides);
+  Step = λ x y.
+      (e : Edge) × In e (node C (x .at) .edges) × (e .next ≡ y .at) × JointMove Ss (x .sides) (side-events e) (y .sides);
   labelled = λ x p. labelled Ss (x .sides) p;
 }
 
@@ -49,6 +51,7 @@ pub record Works (D : Design) (C : Converter) : Type 0 where
   pub matched : Matched (D .sides) C
   pub keeps : (r : ℕ) → In r (D .rules) → Keeps D C r
 
--- Demand 3's "none": every matched converter, of whatever finite number of states and with any number of transitions in a state, fails some rule.
+-- Demand 3's "none": every matched converter, of whatever finite number of states and with any number of transitions in a state,
+-- fails some rule.
 abbrev pub NoneWorks : Design → Type 0
 NoneWorks D = (C : Converter) → Matched (D .sides) C → (r : ℕ) × In r (D .rules) × (Keeps D C r → ⊥)

@@ -18,6 +18,7 @@ abbrev pub grow : {A : Type 0} → (Form → List A → A) → List Form → Lis
 grow g [] acc = acc
 grow g (r ∷ rs) acc = grow g rs (acc ++ (g r acc ∷ []))
 
+-- An operand that isn't lower and a number past the end read as false; refusal 7 shuts both out.
 abbrev pub expand : Form → List Actl → Actl
 expand truth acc = verum
 expand falsity acc = falsum

@@ -1,5 +1,5 @@
--- 01, "The tick": one tick of a converter, the plain sides beside it, and what demand 3 says of every run. Shown and delivered events are lists with one
--- event a side.
+-- 01, "The tick": one tick of a converter, the plain sides beside it, and what demand 3 says of every run. Shown and delivered events
+-- are lists with one event a side.
 use mathlib.Core.Path.{_≡_}
 use mathlib.Core.Bool.{Bool, true, false, not, _&&_, cond}
 use mathlib.Core.Logic.{_⊎_, _↔_}
@@ -11,7 +11,7 @@ use lib.ListN.{length}
 use lib.IntN.{pos, negsuc}
 use Rattle.model.specs.Events.{Event, tick, sent, same-event}
 use Rattle.model.specs.Sides.{Move, State, Side, state}
-use Rattle.model.specs.Converters.{Edge, Node, Converter, node, side-events}
+use Rattle.model.specs.Converters.{Edge, Converter, node, side-events}
 
 -- ---- one tick
 -- A runner: the number of its converter state (01 says record) and the events last delivered.
@@ -24,7 +24,8 @@ pub data Answer : Type 0 where
   done : Answer
   refused : ℕ → Answer
 
--- A shown event fits the side event that it equals, and 0 fits any event not sent. A shown event above 0 fits none.
+-- A shown event fits the side event that it equals, and 0 fits any event not sent. A shown event above 0 fits none. 01's 17 for a
+-- shown event below -63 is included: no event in range equals it, so none fits.
 unfoldable pub fits : Event → Event → Bool
 fits (pos zero) e = not (sent e)
 fits (pos (suc n)) e = false
@@ -49,7 +50,7 @@ unfoldable pub taken : Runner → Option Edge → Ticked
 taken r none = record { answer = refused 17; runner = r }
 taken r (some e) = record { answer = done; runner = record { at = e .next; delivered = side-events e } }
 
--- past the end of the converter there is no transition, so none fits
+-- Past the end of the converter there is no transition, so none fits.
 unfoldable pub ticked : Converter → Runner → List Event → Ticked
 ticked C r xs = taken r (first-fit xs (node C (r .at) .edges))
 
@@ -67,7 +68,9 @@ pub record Called : Type 0 where
   pub running : Running
 
 unfoldable pub called : Running → Call → Called
-called R (tick-call xs) = let t = ticked (R .converter) (R .runner) xs in record { answer = t .answer; running = record { converter = R .converter; runner = t .runner } }
+called R (tick-call xs) =
+    let t = ticked (R .converter) (R .runner) xs in
+    record { answer = t .answer; running = record { converter = R .converter; runner = t .runner } }
 
 -- ---- the plain sides: one state number a side
 -- the target that a state has for an event; where it has none (which demand 3 shuts out) the side stays
@@ -82,14 +85,17 @@ moved (S ∷ Ss) [] es = []
 moved (S ∷ Ss) (s ∷ ss) [] = s ∷ ss
 moved (S ∷ Ss) (s ∷ ss) (e ∷ es) = target-for s (state S s .moves) e ∷ moved Ss ss es
 
--- After "done" each side moves by its delivered event; after a refusal every side stays.
-unfoldable pub plain : List Side → List ℕ → Answer → List Event → List ℕ
-plain Ss ss done es = moved Ss ss es
-plain Ss ss (refused k) es = ss
+-- After a tick that is "done" each side moves by its delivered event; after a refusal every side stays.
+unfoldable pub plain : List Side → List ℕ → Call → Answer → List Event → List ℕ
+plain Ss ss (tick-call xs) done es = moved Ss ss es
+plain Ss ss (tick-call xs) (refused k) es = ss
 
--- A side's table allows an event that its state sends, and 0 where its state has an event that isn't sent; nothing else.
-abbrev pub Allows : State → Event → Type 0
-Allows q x = (T (sent x) × ((t : ℕ) × In (record { event = x; target = t }) (q .moves))) ⊎ ((x ≡ tick) × ((m : Move) × In m (q .moves) × T (not (sent (m .event)))))
+-- What a side's table allows in a state, and nothing else:
+pub data Allows (q : State) (x : Event) : Type 0 where
+  -- an event that its state sends
+  sends : T (sent x) → (t : ℕ) → In (record { event = x; target = t }) (q .moves) → Allows q x
+  -- 0 where its state has an event that isn't sent
+  waits : x ≡ tick → (m : Move) → In m (q .moves) → T (not (sent (m .event))) → Allows q x
 
 -- each side shows what its table allows in its state
 abbrev pub AllAllow : List Side → List ℕ → List Event → Type 0
@@ -100,7 +106,8 @@ AllAllow [] [] (x ∷ xs) = ⊥
 AllAllow (S ∷ Ss) [] xs = ⊥
 AllAllow (S ∷ Ss) (s ∷ ss) [] = ⊥
 
--- A delivered event stands in the state in which its side was; it is the shown event where that isn't 0, and no sent event where 0 was shown.
+-- A delivered event stands in the state in which its side was; it is the shown event where that isn't 0, and no sent event where 0
+-- was shown.
 pub record DeliveredTo (q : State) (x e : Event) : Type 0 where
   pub stands : (t : ℕ) × In (record { event = e; target = t }) (q .moves)
   pub as-shown : (x ≡ tick → ⊥) → e ≡ x
@@ -122,12 +129,17 @@ pub record InStep (R : Running) (ss : List ℕ) : Type 0 where
   pub there : R .runner .at < length (R .converter)
   pub names : node (R .converter) (R .runner .at) .names ≡ ss
 
--- of one call that was answered A and left the run in the state R′
+-- of one tick under which the sides, in the states ss, showed xs; it was answered A and left the run in the state R′
+pub record TickRight (Ss : List Side) (ss : List ℕ) (R : Running) (xs : List Event) (A : Answer) (R′ : Running) : Type 0 where
+  -- "done" exactly when each side shows what its table allows
+  pub done-exactly : (A ≡ done) ↔ AllAllow Ss ss xs
+  -- and otherwise 17 with the runner unchanged
+  pub otherwise-17 : (A ≡ done) ⊎ ((A ≡ refused 17) × (R′ ≡ R))
+  pub delivers : A ≡ done → AllDelivered Ss ss xs (R′ .runner .delivered)
+
+-- of one call
 abbrev pub CallRight : List Side → List ℕ → Running → Call → Answer → Running → Type 0
-CallRight Ss ss R (tick-call xs) A R′ =
-    ((A ≡ done) ↔ AllAllow Ss ss xs)
-    × ((A ≡ done) ⊎ ((A ≡ refused 17) × (R′ ≡ R)))
-    × (A ≡ done → AllDelivered Ss ss xs (R′ .runner .delivered))
+CallRight Ss ss R (tick-call xs) A R′ = TickRight Ss ss R xs A R′
 
 -- Of every run: one claim about the list of calls. `ss` are the plain sides' states before the first call.
 abbrev pub RunRight : List Side → Running → List ℕ → List Call → Type 0
@@ -135,4 +147,4 @@ RunRight Ss R ss [] = InStep R ss
 RunRight Ss R ss (c ∷ cs) =
     InStep R ss
     × CallRight Ss ss R c (called R c .answer) (called R c .running)
-    × RunRight Ss (called R c .running) (plain Ss ss (called R c .answer) (called R c .running .runner .delivered)) cs
+    × RunRight Ss (called R c .running) (plain Ss ss c (called R c .answer) (called R c .running .runner .delivered)) cs

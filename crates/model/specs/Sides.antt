@@ -1,6 +1,6 @@
 -- 01, "Events and states": a side is a table of states; the three kinds of a state; and refusals 5 and 6 as predicates on tables.
 use mathlib.Core.Path.{_≡_}
-use mathlib.Core.Bool.{Bool, true, false, not, _||_, cond}
+use mathlib.Core.Bool.{Bool, false, not, _||_, cond}
 use mathlib.Core.Logic.{_⊎_}
 use mathlib.Core.List.{List, [], _∷_, List·Memᴰ as In}
 use Prim.Native.Nat.{ℕ, _≤_, _<_}
@@ -8,12 +8,12 @@ use lib.Dec.{T, eqb}
 use lib.ListN.{length, getD}
 use Rattle.model.specs.Events.{Event, tick, sent, InRange}
 
--- one transition of a state of a side
+-- 01: the transition of a side's state
 pub record Move : Type 0 where
   pub event : Event
   pub target : ℕ
 
--- bit k of the label word is set where proposition k holds
+-- Bit k of the label word is set where proposition k holds: 16 bits in 01; no formula names a higher one.
 pub record State : Type 0 where
   pub label : ℕ
   pub moves : List Move
@@ -46,7 +46,9 @@ IsOutputOnly q = (m : Move) × (q .moves ≡ m ∷ []) × T (sent (m .event))
 
 -- exactly two, in either order: one sent (m) and a tick back to itself (w)
 abbrev pub IsDelayed : ℕ → State → Type 0
-IsDelayed s q = (m : Move) × (w : Move) × ((q .moves ≡ m ∷ w ∷ []) ⊎ (q .moves ≡ w ∷ m ∷ [])) × T (sent (m .event)) × (w .event ≡ tick) × (w .target ≡ s)
+IsDelayed s q =
+    (m : Move) × (w : Move) × ((q .moves ≡ m ∷ w ∷ []) ⊎ (q .moves ≡ w ∷ m ∷ []))
+    × T (sent (m .event)) × (w .event ≡ tick) × (w .target ≡ s)
 
 abbrev pub IsKind : Kind → ℕ → State → Type 0
 IsKind input s q = IsInput q
@@ -67,13 +69,15 @@ pub record WellFormedState (n : ℕ) (q : State) : Type 0 where
   pub some-move : 1 ≤ length (q .moves)
   pub at-most-eight : length (q .moves) ≤ 8
   pub in-range : (m : Move) → In m (q .moves) → InRange (m .event)
-  pub once : (j k : ℕ) → j < length (q .moves) → k < length (q .moves) → getD (q .moves) j no-move .event ≡ getD (q .moves) k no-move .event → j ≡ k
+  pub once : (j k : ℕ) → j < length (q .moves) → k < length (q .moves)
+      → getD (q .moves) j no-move .event ≡ getD (q .moves) k no-move .event → j ≡ k
   pub inside : (m : Move) → In m (q .moves) → m .target < n
 
 -- refusal 6: a state of one of the three kinds
 abbrev pub HasKind : ℕ → State → Type 0
 HasKind s q = (k : Kind) × IsKind k s q
 
+-- refusals 5 and 6 of each state, and 1 to 16 states (refusal 4)
 pub record WellFormedSide (S : Side) : Type 0 where
   pub some-state : 1 ≤ length S
   pub at-most-sixteen : length S ≤ 16

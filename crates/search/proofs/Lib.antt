@@ -1,4 +1,5 @@
 -- Laws of the lent cells.
 pub mod PutBytes
 pub mod CellLaws
+pub mod CellWrites
 pub mod Adding
