@@ -2,4 +2,6 @@
 pub mod PutBytes
 pub mod CellLaws
 pub mod CellWrites
+pub mod Geometry
+pub mod Plans
 pub mod Adding
