@@ -5,3 +5,4 @@ pub mod CellWrites
 pub mod Geometry
 pub mod Plans
 pub mod Adding
+pub mod Spreading
