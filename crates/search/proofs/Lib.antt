@@ -6,3 +6,4 @@ pub mod Geometry
 pub mod Plans
 pub mod Adding
 pub mod Spreading
+pub mod Rows
