@@ -6,4 +6,5 @@ pub mod Geometry
 pub mod Plans
 pub mod Adding
 pub mod Spreading
+pub mod Counting
 pub mod Rows
