@@ -1,6 +1,9 @@
--- Laws of the lent cells, and of positions by number.
+-- Laws of the lent cells, of positions by number, and of the plan of a design.
 pub mod PutBytes
 pub mod CellLaws
 pub mod CellWrites
+pub mod Accepted
+pub mod FreeTest
 pub mod Geometry
 pub mod Plans
+pub mod PlanSteps
