@@ -7,3 +7,6 @@ pub mod FreeTest
 pub mod Geometry
 pub mod Plans
 pub mod PlanSteps
+pub mod SetLaws
+pub mod ValueKinds
+pub mod ValueLaws

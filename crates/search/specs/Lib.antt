@@ -2,4 +2,5 @@
 pub mod Cells
 pub mod Geometry
 pub mod Plans
+pub mod Values
 pub mod State
