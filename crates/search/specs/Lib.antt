@@ -2,6 +2,7 @@
 pub mod Cells
 pub mod Geometry
 pub mod Plans
+pub mod Values
 pub mod State
 pub mod Stamping
 pub mod Steps
