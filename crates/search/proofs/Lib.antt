@@ -14,3 +14,4 @@ pub mod Adding
 pub mod Spreading
 pub mod Counting
 pub mod Rows
+pub mod JointSteps

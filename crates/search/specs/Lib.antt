@@ -5,4 +5,5 @@ pub mod Plans
 pub mod Values
 pub mod State
 pub mod Stamping
+pub mod Moves
 pub mod Steps
