@@ -14,4 +14,5 @@ pub mod Adding
 pub mod Spreading
 pub mod Counting
 pub mod Rows
+pub mod Loading
 pub mod JointSteps
