@@ -10,3 +10,6 @@ pub mod PlanSteps
 pub mod SetLaws
 pub mod ValueKinds
 pub mod ValueLaws
+pub mod LabelLaws
+pub mod DueLaws
+pub mod GameValues
