@@ -13,3 +13,4 @@ pub mod ValueLaws
 pub mod LabelLaws
 pub mod DueLaws
 pub mod GameValues
+pub mod Preparing
