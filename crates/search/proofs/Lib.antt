@@ -1,4 +1,4 @@
--- Laws of the lent cells, of positions by number, and of the plan of a design.
+-- Laws of the lent cells, of positions by number, of the plan of a design, and of the values of its formulas.
 pub mod PutBytes
 pub mod CellLaws
 pub mod CellWrites
