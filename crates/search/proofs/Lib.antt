@@ -1,4 +1,4 @@
--- Laws of the lent cells, of positions by number, and of the plan of a design.
+-- Laws of the lent cells, of positions by number, of the plan of a design, and of the values of its formulas.
 pub mod PutBytes
 pub mod CellLaws
 pub mod CellWrites
@@ -10,6 +10,10 @@ pub mod PlanSteps
 pub mod SetLaws
 pub mod ValueKinds
 pub mod ValueLaws
+pub mod LabelLaws
+pub mod DueLaws
+pub mod GameValues
+pub mod Preparing
 pub mod Adding
 pub mod Spreading
 pub mod Counting
