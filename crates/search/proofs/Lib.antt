@@ -20,3 +20,4 @@ pub mod Counting
 pub mod Rows
 pub mod Loading
 pub mod JointSteps
+pub mod PartNumber
