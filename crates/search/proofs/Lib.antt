@@ -1,3 +1,4 @@
 -- Laws of the lent cells.
 pub mod PutBytes
+pub mod Queues
 pub mod CellLaws

@@ -2,3 +2,4 @@
 pub mod Cells
 pub mod Geometry
 pub mod State
+pub mod Queue
