@@ -11,7 +11,7 @@ use lib.Signed.{mag, ltZ, leZ}
 use mir.Syntax.{w8}
 use mir.Val.{SFits, ofZ, toZ}
 use mir.ValLaws.{toZ-ofZ}
-use Rattle.model.specs.Events.{same-event}
+use Rattle.model.specs.Events.{sent, same-event}
 
 -- the machine reads a number back from its bits
 pub read-back : (e : ℤ) → mag e < 128 → toZ w8 (ofZ w8 e) ≡ e
@@ -43,6 +43,11 @@ nonnegative (negsuc n) t = absurd (false≢true t)
 pub negative : (e : ℤ) → leZ (pos 0) e ≡ false → (n : ℕ) × (e ≡ negsuc n)
 negative (pos n) t = absurd (true≢false (sym (leb·zero n) ∙ t))
 negative (negsuc n) t = (n, refl)
+
+-- the test `e < 0`
+pub sent-below : (e : ℤ) → ltZ e (pos 0) ≡ sent e
+sent-below (pos n) = le-ltb n 0 (omega arith)
+sent-below (negsuc n) = refl
 
 -- two tests of numbers that are equal for the same reason
 eqb-both : (a b x y : ℕ) → (a ≡ b → x ≡ y) → (x ≡ y → a ≡ b) → eqb a b ≡ eqb x y

@@ -8,6 +8,7 @@ pub mod Records
 pub mod Unused
 pub mod Blocks
 pub mod Designs
+pub mod Joint
 pub mod Converters
 pub mod Files
 pub mod Tests

@@ -2,7 +2,7 @@
 ghost use mathlib.Core.Path.{_≡_};
 ghost use Prim.Native.Nat.{_<_};
 ghost use lib.ListN.{length};
-ghost use Rattle.model.specs.Events.{InRange, dual, same-event};
+ghost use Rattle.model.specs.Events.{InRange, sent, dual, same-event};
 ghost use Rattle.layout.specs.Bytes.{byte, event-of, event-byte};
 ghost use Rattle.layout.specs.Tests.{in-range};
 
@@ -43,6 +43,13 @@ pub fn in_range(e: i8) -> bool
         return false;
     }
     e <= 63
+}
+
+// The sent events are the negative ones.
+pub fn is_sent(e: i8) -> bool
+    ensures { λ r. ⌜ r ≡ sent e ⌝ }
+{
+    e < 0
 }
 
 // The dual of an event. -128 has none, so the range comes first.

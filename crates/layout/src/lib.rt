@@ -2,6 +2,7 @@
 pub mod designs;
 pub mod events;
 pub mod formulas;
+pub mod joint;
 pub mod ranges;
 pub mod records;
 pub mod sizes;

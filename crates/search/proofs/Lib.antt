@@ -2,3 +2,4 @@
 pub mod PutBytes
 pub mod Queues
 pub mod CellLaws
+pub mod CellWrites
