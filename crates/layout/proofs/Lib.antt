@@ -16,3 +16,5 @@ pub mod StateTests
 pub mod FormulaTests
 pub mod Passing
 pub mod WellFormed
+pub mod FormKinds
+pub mod PositionCount

@@ -13,3 +13,4 @@ pub mod Converters
 pub mod Files
 pub mod Tests
 pub mod Refusals
+pub mod Counted

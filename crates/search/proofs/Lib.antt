@@ -1,5 +1,7 @@
--- Laws of the lent cells.
+-- Laws of the lent cells, and of positions by number.
 pub mod PutBytes
 pub mod Queues
 pub mod CellLaws
 pub mod CellWrites
+pub mod Geometry
+pub mod Plans

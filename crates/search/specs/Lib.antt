@@ -1,5 +1,6 @@
 -- What the search promises, and the definitions that its functions' contracts cite.
 pub mod Cells
 pub mod Geometry
+pub mod Plans
 pub mod State
 pub mod Queue
