@@ -4,3 +4,4 @@ pub mod Geometry
 pub mod Plans
 pub mod State
 pub mod Queue
+pub mod Emission
