@@ -5,3 +5,5 @@ pub mod CellLaws
 pub mod CellWrites
 pub mod Geometry
 pub mod Plans
+pub mod Verdicts
+pub mod Asks
