@@ -7,3 +7,4 @@ pub mod Geometry
 pub mod Plans
 pub mod Verdicts
 pub mod Asks
+pub mod Answering
