@@ -8,3 +8,4 @@ pub mod Plans
 pub mod Verdicts
 pub mod Asks
 pub mod Answering
+pub mod Connecting
