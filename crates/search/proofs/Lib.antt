@@ -9,3 +9,4 @@ pub mod Verdicts
 pub mod Asks
 pub mod Answering
 pub mod Connecting
+pub mod Standing
