@@ -10,3 +10,4 @@ pub mod Asks
 pub mod Answering
 pub mod Connecting
 pub mod Standing
+pub mod Composing
