@@ -11,3 +11,4 @@ pub mod Answering
 pub mod Connecting
 pub mod Standing
 pub mod Composing
+pub mod WrittenRecords
