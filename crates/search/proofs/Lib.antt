@@ -12,3 +12,4 @@ pub mod Connecting
 pub mod Standing
 pub mod Composing
 pub mod WrittenRecords
+pub mod Emitting
