@@ -1,4 +1,5 @@
--- The theorem to read first is `WellFormed`: a design that passes tests 1 to 8 is well formed in the model's sense. The rest is what proofs of functions cite.
+-- Two theorems to read first: `WellFormed`, a design that passes tests 1 to 8 is well formed in the model's sense; and `RoundTrip`, a converter that is
+-- written is read back the same, and only such files are read. The rest is what proofs of functions cite.
 pub mod Tables
 pub mod AnyOf
 pub mod DesignBytes
@@ -18,3 +19,21 @@ pub mod Passing
 pub mod WellFormed
 pub mod FormKinds
 pub mod PositionCount
+pub mod ConverterBytes
+pub mod Nodes
+pub mod Made
+pub mod Accepted
+pub mod Sealed
+pub mod SealedBytes
+pub mod WrittenFile
+pub mod Outcomes
+pub mod FileSizes
+pub mod BlockTests
+pub mod Earlier
+pub mod FileTests
+pub mod Agree
+pub mod FileRecords
+pub mod AcceptedFiles
+pub mod WrittenRead
+pub mod ReadWritten
+pub mod RoundTrip

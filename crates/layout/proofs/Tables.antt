@@ -28,6 +28,18 @@ and-unit false = refl
 pub and-false : (a b : Bool) → a ≡ false → (a && b) ≡ false
 and-false a b e = ap (λ x. x && b) e
 
+pub and-false-right : (a b : Bool) → b ≡ false → (a && b) ≡ false
+and-false-right a b e = T-false (a && b) (λ t. false-T b e (and-both a b t .1))
+
+pub and-true : (a b : Bool) → a ≡ true → b ≡ true → (a && b) ≡ true
+and-true a b p q = T-true (a && b) (both-and a b (true-T a p) (true-T b q))
+
+pub and-left : (a b : Bool) → (a && b) ≡ true → a ≡ true
+and-left a b e = T-true a (and-both a b (true-T (a && b) e) .0)
+
+pub and-right : (a b : Bool) → (a && b) ≡ true → b ≡ true
+and-right a b e = T-true b (and-both a b (true-T (a && b) e) .1)
+
 -- ---- each number below n
 module _ (p : ℕ → Bool) where
   pub each-every : (n : ℕ) → ((k : ℕ) → k < n → T (p k)) → T (every n p)
@@ -48,6 +60,9 @@ module _ (p : ℕ → Bool) where
   pub every-false : (n k : ℕ) → k < n → p k ≡ false → every n p ≡ false
   every-false n k h e = T-false (every n p) (λ t. false-T (p k) e (every-each n t k h))
 
+  pub every-at : (n : ℕ) → every n p ≡ true → (k : ℕ) → k < n → p k ≡ true
+  every-at n e k h = T-true (p k) (every-each n (true-T (every n p) e) k h)
+
 -- ---- each element of a list, by index
 module _ {A : Type 0} (p : A → Bool) (d : A) where
   pub all-true : (l : List A) → ((k : ℕ) → k < length l → p (getD l k d) ≡ true) → all p l ≡ true
@@ -56,6 +71,9 @@ module _ {A : Type 0} (p : A → Bool) (d : A) where
 
   pub all-false : (l : List A) (k : ℕ) → k < length l → p (getD l k d) ≡ false → all p l ≡ false
   all-false l k h e = T-false (all p l) (λ t. false-T (p (getD l k d)) e (all-in p (getD-in l k d h) t))
+
+  pub all-at : (l : List A) → all p l ≡ true → (k : ℕ) → k < length l → p (getD l k d) ≡ true
+  all-at l e k h = T-true (p (getD l k d)) (all-in p (getD-in l k d h) (true-T (all p l) e))
 
 -- ---- no two the same, by a test that is symmetric
 module _ (same : ℕ → ℕ → Bool) (swap : (j k : ℕ) → T (same j k) → T (same k j)) where

@@ -14,3 +14,4 @@ pub mod Files
 pub mod Tests
 pub mod Refusals
 pub mod Counted
+pub mod Answers

@@ -1,7 +1,7 @@
 -- 01, "When a call declines": the refusals as tests of the whole input, and for each caller the list of its numbers in 01's order.
 use mathlib.Core.Bool.{Bool, _&&_, cond}
 use mathlib.Core.List.{List, [], _∷_, _++_}
-use Prim.Native.Nat.{ℕ, _+_, _*_, _%_}
+use Prim.Native.Nat.{ℕ, _+_, _*_, _%_, min}
 use lib.Dec.{eqb, leb}
 use lib.ListN.{length}
 use Rattle.model.specs.Positions.{positions}
@@ -47,6 +47,19 @@ unused-eight converter-record bs at = []
 
 unfoldable pub unused-right : List ℕ → Block → Bool
 unused-right bs b = every (record-count bs b) (λ k. all-zero (unused-eight (b .holds) bs (record-place b k))) && all-zero (behind bs b)
+
+-- the four, in order
+abbrev pub block-tests : List ℕ → Block → List Test
+block-tests bs b =
+    record { number = 2; passes = check-right bs b }
+    ∷ record { number = 3; passes = header-right bs b }
+    ∷ record { number = 4; passes = count-right bs b }
+    ∷ record { number = 8; passes = unused-right bs b }
+    ∷ []
+
+-- of two refusals the one that comes first, where 0 is none
+unfoldable pub earlier : ℕ → ℕ → ℕ
+earlier a b = cond (eqb a 0) b (cond (eqb b 0) a (min a b))
 
 -- ---- 1 to 8: a design
 unfoldable pub kinds-known : List ℕ → Bool

@@ -50,6 +50,8 @@ pub const CHECK_IN_BLOCK: usize = 510;
 pub const DESIGN_BYTES: usize = 2048;
 
 // Converters.
+pub const CONVERTER_KIND: u8 = 5;
+
 pub const BLOCK_RECORDS: usize = 14;
 
 pub const BLOCK_RECORD_BYTES: usize = 504;
