@@ -13,3 +13,5 @@ pub mod Standing
 pub mod Composing
 pub mod WrittenRecords
 pub mod Emitting
+pub mod Serving
+pub mod Working
