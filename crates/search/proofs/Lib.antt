@@ -15,3 +15,4 @@ pub mod WrittenRecords
 pub mod Emitting
 pub mod Serving
 pub mod Working
+pub mod Emissions
