@@ -4,4 +4,5 @@ pub mod Geometry
 pub mod Plans
 pub mod State
 pub mod Queue
+pub mod Choices
 pub mod Emission
