@@ -1,5 +1,6 @@
 -- Laws of the lent cells, of positions by number, of the plan of a design, and of the values of its formulas.
 pub mod PutBytes
+pub mod Queues
 pub mod CellLaws
 pub mod CellWrites
 pub mod Accepted
@@ -21,3 +22,14 @@ pub mod Rows
 pub mod Loading
 pub mod JointSteps
 pub mod PartNumber
+pub mod Verdicts
+pub mod Asks
+pub mod Answering
+pub mod Connecting
+pub mod Standing
+pub mod Composing
+pub mod WrittenRecords
+pub mod Emitting
+pub mod Serving
+pub mod Working
+pub mod Emissions

@@ -7,3 +7,6 @@ pub mod State
 pub mod Stamping
 pub mod Moves
 pub mod Steps
+pub mod Queue
+pub mod Choices
+pub mod Emission
