@@ -110,15 +110,30 @@ fn two_faults() {
 
 fn lengths() {
     let none = [0u8; 0];
-    lines::line(b"a design of 0 bytes", layout::design_tests::design_refusal(&none) as u64);
+    lines::line(
+        b"a design of 0 bytes",
+        layout::design_tests::design_refusal(&none) as u64,
+    );
     let one = [0u8; 1];
-    lines::line(b"a design of 1 byte", layout::design_tests::design_refusal(&one) as u64);
+    lines::line(
+        b"a design of 1 byte",
+        layout::design_tests::design_refusal(&one) as u64,
+    );
     let block = [0u8; 511];
-    lines::line(b"a design of 511 bytes", layout::design_tests::design_refusal(&block) as u64);
+    lines::line(
+        b"a design of 511 bytes",
+        layout::design_tests::design_refusal(&block) as u64,
+    );
     let short = [0u8; 2047];
-    lines::line(b"a design of 2047 bytes", layout::design_tests::design_refusal(&short) as u64);
+    lines::line(
+        b"a design of 2047 bytes",
+        layout::design_tests::design_refusal(&short) as u64,
+    );
     let long = [0u8; 2049];
-    lines::line(b"a design of 2049 bytes", layout::design_tests::design_refusal(&long) as u64);
+    lines::line(
+        b"a design of 2049 bytes",
+        layout::design_tests::design_refusal(&long) as u64,
+    );
 }
 
 pub fn rows() {

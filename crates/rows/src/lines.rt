@@ -11,5 +11,8 @@ pub fn line(words: &[u8], n: u64) {
 // Bytes added up, wrapping at 65,536.
 pub fn checks() {
     let block = [255u8; 512];
-    line(b"check of 510 bytes of 255", layout::ranges::check_of(&block, 0) as u64);
+    line(
+        b"check of 510 bytes of 255",
+        layout::ranges::check_of(&block, 0) as u64,
+    );
 }

@@ -4,7 +4,11 @@ use crate::lines;
 
 // One tick of F from a record: the answer, and where the runner stands then.
 fn tick(words: &[u8], record: u16, first: i8, second: i8) {
-    let before = runner::Runner { record: record, first: 0, second: 0 };
+    let before = runner::Runner {
+        record: record,
+        first: 0,
+        second: 0,
+    };
     let after = runner::step(&bytes::F, before, first, second);
     let answer = after.answer;
     match answer {
@@ -13,8 +17,14 @@ fn tick(words: &[u8], record: u16, first: i8, second: i8) {
     }
     let then = after.runner;
     lines::line(b"  then at record", then.record as u64);
-    lines::line(b"  delivered to side 1, as a byte", layout::events::to_byte(then.first) as u64);
-    lines::line(b"  delivered to side 2, as a byte", layout::events::to_byte(then.second) as u64);
+    lines::line(
+        b"  delivered to side 1, as a byte",
+        layout::events::to_byte(then.first) as u64,
+    );
+    lines::line(
+        b"  delivered to side 2, as a byte",
+        layout::events::to_byte(then.second) as u64,
+    );
 }
 
 pub fn rows() {
