@@ -11,3 +11,5 @@ pub mod AlwaysFalls
 pub mod AlwaysMarks
 pub mod Formed
 pub mod TallyFrom
+pub mod ByIndex
+pub mod ObeysTest
