@@ -2,6 +2,7 @@
 ghost use mathlib.Core.Path.{_≡_};
 ghost use lib.ListN.{length};
 ghost use Rattle.judge.specs.Judge.{judge-refusal, Judges};
+
 mod always;
 mod cells;
 mod graph;
@@ -10,6 +11,7 @@ mod matched;
 mod rules;
 mod sweeps;
 mod until;
+
 use layout::converters;
 use layout::design_tests;
 use layout::ranges;
@@ -32,7 +34,7 @@ fn judge_refusal(design: &[u8], converter: &[u8], room: usize) -> u8
     if of_converter != 0 {
         return of_converter;
     }
-    if room < 16 * converters::count(converter) {
+    if room < cells::CELL_BYTES * converters::count(converter) {
         return 13;
     }
     0
@@ -47,7 +49,7 @@ pub fn judge(design: &[u8], converter: &[u8], work: &mut [u8]) -> Verdict
         return Verdict::Refused(refusal);
     }
     let found = rules::verdict(design, converter, work);
-    ranges::fill(work, 0, 16 * converters::count(converter), 0);
+    ranges::fill(work, 0, cells::CELL_BYTES * converters::count(converter), 0);
     if found != 0 {
         return Verdict::Refused(found);
     }
