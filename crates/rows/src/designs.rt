@@ -60,14 +60,24 @@ pub fn four_rules(d: &mut [u8; 2048], mended: bool) {
     build::rule(d, 3, 35);
 }
 
-// H with "true" and 15 formulas AG true, each kept: 131,072 positions.
+// A(true U true) as three formulas from number k on, where formula 0 is "true".
+fn three_untils(d: &mut [u8; 2048], k: usize)
+    requires { ⌜ k < 60 ⌝ }
+{
+    build::formula(d, k, 8, 0, 0);
+    build::formula(d, k + 1, 8, 0, 0);
+    build::formula(d, k + 2, 8, 0, 0);
+}
+
+// H with "true" and 12 untils, each kept: 196,608 positions.
 pub fn many_kept(d: &mut [u8; 2048]) {
     handshake(d);
     build::formula(d, 0, 1, 0, 0);
-    for k in 1..16 {
-        build::formula(d, k, 9, 0, 0);
-    }
-    seal_pair(d, 16, 0);
+    three_untils(d, 1);
+    three_untils(d, 4);
+    three_untils(d, 7);
+    three_untils(d, 10);
+    seal_pair(d, 13, 0);
 }
 
 // H with A(true U 1).

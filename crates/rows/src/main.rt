@@ -4,6 +4,7 @@ mod build;
 mod bytes;
 mod designs;
 mod files;
+mod judging;
 mod lines;
 mod ticks;
 
@@ -11,5 +12,6 @@ fn main() {
     lines::checks();
     designs::rows();
     files::rows();
+    judging::rows();
     ticks::rows();
 }
