@@ -61,7 +61,7 @@ fn searches() {
             _ => ruled_design(&mut random, &Shape { formulas: 20, rules: 5, ..Shape::SMALL }),
         };
         let mut bytes = made.to_bytes();
-        if round % 8 == 0 {
+        if round % 4 == 0 {
             damage(&mut random, &mut bytes);
         }
         let size = read_design(&bytes).map_or(4, |made| positions(&made).min(1 << 13) as usize);
@@ -70,7 +70,7 @@ fn searches() {
         answers[usize::from(search_agrees(&bytes, table_length, work_length))] += 1;
     }
     for number in [0, 1, 2, 3, 4, 5, 6, 7, 8, 9, 12, 13, 16] {
-        assert!(answers[number] > 20, "{number}: {answers:?}");
+        assert!(answers[number] > 10, "{number}: {answers:?}");
     }
     assert!(answers[0] > 2_000 && answers[16] > 2_000, "{answers:?}");
 }
