@@ -17,6 +17,7 @@ pub fn examples() -> Vec<Example> {
         multi_write(),
         arbiter_producer(),
         arbiter_consumer(),
+        arbiter_masters(),
     ]
 }
 
@@ -470,4 +471,54 @@ wants to read two words in a row.",
 The consumer asks of its own accord and must get access in the end. Then it uses the bus for two ticks in a row, and the arbiter takes the
 grant back after one. The source paper reports the same failure.",
     )
+}
+
+fn arbiter_masters() -> Example {
+    let used = || p("produces") | p("consumes");
+    Example {
+        name: "arbiter-masters",
+        title: "Arbiter with producer and consumer (12)",
+        about: "\
+The arbiter keeps the bus granted until it hears `done`. The two masters are one table, since only one of them moves at a time: both wait
+for the bus, and each uses it for two ticks.",
+        sides: [
+            Side {
+                title: "arbiter",
+                states: vec![
+                    state("free", &[], &[(Tick, "free"), (Read("request"), "giving")]),
+                    state("giving", &[], &[(Send("grant"), "busy")]),
+                    state("busy", &["granted"], &[(Tick, "busy"), (Read("done"), "free")]),
+                ],
+            },
+            Side {
+                title: "producer and consumer",
+                states: vec![
+                    state(
+                        "both",
+                        &[],
+                        &[(Tick, "both"), (Read("produce"), "out1"), (Read("consume"), "in1")],
+                    ),
+                    state("out1", &["produces"], &[(Send("data"), "out2")]),
+                    state("out2", &["produces"], &[(Send("done"), "both")]),
+                    state("in1", &["consumes"], &[(Read("data"), "in2")]),
+                    state("in2", &["consumes"], &[(Send("done"), "both")]),
+                ],
+            },
+        ],
+        signals: vec!["request", "grant", "done", "data", "produce", "consume"],
+        propositions: vec!["granted", "produces", "consumes"],
+        rules: vec![
+            (
+                "A master uses the bus only while it is granted; a grant is taken up or given back at the next tick.",
+                ag(used().implies(p("granted"))
+                    & (p("granted") & !used()).implies(ax(used() | !p("granted")))),
+            ),
+            (
+                "Again and again the producer gets to execute, and so does the consumer.",
+                ag(af(p("produces")) & af(p("consumes"))),
+            ),
+        ],
+        verdict: Verdict::Converter,
+        why: "The converter remembers whose turn it is: records that name the same states differ in what comes next.",
+    }
 }

@@ -86,6 +86,8 @@ fn positions_by_hand() {
         // 3 × 4 states, 5 kept, 1 until.
         ("arbiter-producer", 12 * 32),
         ("arbiter-consumer", 12 * 32),
+        // 3 × 5 states, 5 kept, 2 untils.
+        ("arbiter-masters", 15 * 32 * 2),
     ];
     let found: Vec<(&str, u128)> =
         examples().iter().map(|example| (example.name, positions(&example.design()))).collect();
