@@ -2,8 +2,10 @@
 //! checker over converters: matched, nearly matched, loose and damaged.
 
 mod common;
+#[path = "../../checker/tests/samples/mod.rs"]
+mod samples;
 
-use checker::bytes::{converter_bytes, positions, seal, write_blocks, Design, Link, Record};
+use checker::bytes::{converter_bytes, positions, seal, write_blocks};
 use checker::generate::{
     any_converter, any_design, block_file, damage, damaged_converter, design, loose_converter,
     matched_converter, nearly_matched_converter, ruled_design, script, Random, Shape,
@@ -11,44 +13,7 @@ use checker::generate::{
 use checker::tick::watch;
 use common::{about, found, judge_agrees, read_agrees, tick_agrees, write_agrees, Answers};
 use gorzhani::{Refused, Runner, BLOCK, CELL, RECORD};
-
-/// The handshake pair of the specification's rows with converter F.
-fn handshake() -> (Design, Vec<Record>) {
-    use checker::bytes::{Formula, State, Transition};
-    let state = |label, transitions: &[(i8, u8)]| State {
-        label,
-        transitions: transitions
-            .iter()
-            .map(|&(event, target)| Transition { event, target })
-            .collect(),
-    };
-    let record = |pair, links: &[([i8; 2], u16)]| Record {
-        pair,
-        links: links.iter().map(|&(events, next)| Link { events, next }).collect(),
-    };
-    let sides = [
-        vec![state(1, &[(0, 0), (-1, 1)]), state(2, &[(0, 1), (-2, 0)])],
-        vec![state(4, &[(0, 0), (1, 1)]), state(8, &[(2, 0)])],
-    ];
-    // At every tick: where both are idle, serial reads no request that isn't sent.
-    let formulas = vec![
-        Formula::NotProposition(0),
-        Formula::NotProposition(2),
-        Formula::Or(0, 1),
-        Formula::Proposition(1),
-        Formula::NotProposition(3),
-        Formula::Or(3, 4),
-        Formula::Next(5),
-        Formula::Or(2, 6),
-        Formula::Always(7),
-    ];
-    let f = vec![
-        record([0, 0], &[([1, 0], 1), ([0, 0], 0)]),
-        record([1, 0], &[([2, -1], 2), ([0, 0], 1)]),
-        record([0, 1], &[([1, -2], 1), ([0, -2], 0)]),
-    ];
-    (Design { sides, formulas, rules: vec![8] }, f)
-}
+use samples::{figure_five, ruled_handshake};
 
 #[test]
 fn judgements() {
@@ -78,8 +43,7 @@ fn judgements() {
 
 #[test]
 fn every_byte_of_a_converter() {
-    let (made, f) = handshake();
-    let (bytes, converter) = (made.to_bytes(), converter_bytes(&f));
+    let (bytes, converter) = (ruled_handshake(false).to_bytes(), converter_bytes(&figure_five()));
     assert_eq!(judge_agrees(&bytes, &converter, CELL * 3), 0);
     let (mut judged, mut written, mut ticked) =
         (Answers::default(), Answers::default(), Answers::default());
@@ -100,10 +64,9 @@ fn every_byte_of_a_converter() {
 
 #[test]
 fn every_length_of_a_converter() {
-    let (made, f) = handshake();
-    let mut long = converter_bytes(&f);
+    let mut long = converter_bytes(&figure_five());
     long.extend_from_within(..2 * RECORD);
-    let bytes = made.to_bytes();
+    let bytes = ruled_handshake(false).to_bytes();
     for length in 0..=long.len() {
         let converter = &long[..length];
         let records = length / RECORD;
@@ -213,8 +176,7 @@ fn ticks_of_any_converter() {
 
 #[test]
 fn ticks_at_every_shown_event() {
-    let (_, f) = handshake();
-    let converter = converter_bytes(&f);
+    let converter = converter_bytes(&figure_five());
     let mut answers = Answers::default();
     for record in 0..4 {
         for first in i8::MIN..=i8::MAX {

@@ -1,14 +1,16 @@
 //! Inputs at the limits, which need more memory than a small program holds.
 
 mod common;
+#[path = "../../checker/tests/samples/mod.rs"]
+mod samples;
 
 use checker::bytes::{
-    converter_bytes, positions, seal, write_blocks, Design, Formula, Link, Record, State,
-    Transition,
+    converter_bytes, positions, seal, write_blocks, Design, Formula, Link, Record,
 };
 use checker::generate::{loose_converter, Random};
 use common::{judge_agrees, read_agrees, search_agrees, write_agrees};
 use gorzhani::{BLOCK, CELL, RECORD};
+use samples::{rings, state};
 
 const MOST: usize = 65_536;
 
@@ -55,14 +57,7 @@ fn one_block_too_many() {
 /// A ring of records beside one ticking state: each ticks on to the next, the
 /// last to the first. Reading 1 leads to the last state, where 0 holds.
 fn long_way(records: usize) -> (Design, Vec<Record>) {
-    let state = |label, transitions: &[(i8, u8)]| State {
-        label,
-        transitions: transitions
-            .iter()
-            .map(|&(event, target)| Transition { event, target })
-            .collect(),
-    };
-    let walking = vec![state(0, &[(0, 0), (1, 1)]), state(1, &[(0, 0)])];
+    let walking = vec![state(&[], &[(0, 0), (1, 1)]), state(&[0], &[(0, 0)])];
     let formulas = vec![
         Formula::True,
         Formula::Proposition(0),
@@ -71,7 +66,7 @@ fn long_way(records: usize) -> (Design, Vec<Record>) {
         Formula::Next(3),
     ];
     let design =
-        Design { sides: [walking, vec![state(0, &[(0, 0)])]], formulas, rules: vec![2, 3, 4] };
+        Design { sides: [walking, vec![state(&[], &[(0, 0)])]], formulas, rules: vec![2, 3, 4] };
     let record = |own: usize| {
         let event = if own + 2 == records { -1 } else { 0 };
         let next = ((own + 1) % records) as u16;
@@ -96,41 +91,6 @@ fn a_long_way_to_what_an_until_waits_for() {
         unmatched[records - 1].pair = [2, 0];
         assert_eq!(judge_agrees(&bytes, &converter_bytes(&unmatched), CELL * records), 14);
     }
-}
-
-/// Two rings of sixteen states, each of which ticks on or reads 1 and stays.
-/// State 15 has label 0 on side 1 and label 1 on side 2. Eight formulas are
-/// kept: 2, 3, 4, 5, 6, 8, 11 and 15.
-fn rings(last: Formula) -> Design {
-    let ring = |proposition: u8| -> Vec<State> {
-        let state = |own: u8| State {
-            label: if own == 15 { 1 << proposition } else { 0 },
-            transitions: vec![
-                Transition { event: 0, target: (own + 1) % 16 },
-                Transition { event: 1, target: own },
-            ],
-        };
-        (0..16).map(state).collect()
-    };
-    let formulas = vec![
-        Formula::True,
-        Formula::Proposition(0),
-        Formula::Until(0, 1),
-        Formula::Always(2),
-        Formula::Proposition(1),
-        Formula::NotProposition(1),
-        Formula::NotProposition(0),
-        Formula::Or(6, 5),
-        Formula::Always(7),
-        Formula::Next(6),
-        Formula::Or(6, 9),
-        Formula::Always(10),
-        Formula::Next(5),
-        Formula::Next(4),
-        Formula::Or(13, 12),
-        last,
-    ];
-    Design { sides: [ring(0), ring(1)], formulas, rules: vec![3, 8, 11, 15] }
 }
 
 #[test]
