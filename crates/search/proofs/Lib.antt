@@ -22,6 +22,9 @@ pub mod Rows
 pub mod Loading
 pub mod JointSteps
 pub mod PartNumber
+pub mod Blocks
+pub mod AddedStamps
+pub mod JointSweeps
 pub mod Verdicts
 pub mod Asks
 pub mod Answering
