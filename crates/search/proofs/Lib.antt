@@ -31,6 +31,7 @@ pub mod Asks
 pub mod Answering
 pub mod Connecting
 pub mod Standing
+pub mod Deciding
 pub mod Composing
 pub mod WrittenRecords
 pub mod Emitting
