@@ -28,10 +28,14 @@ fn judged(d: &[u8; 2048], table: &[u8], n: usize, work: &mut [u8]) {
     }
 }
 
-fn positions(d: &[u8; 2048]) {
-    if layout::design_tests::design_refusal(d) == 0 {
-        lines::line(b"  positions", layout::positions::positions_of(d) as u64);
+// The positions of a design that isn't refused, 65,537 where there are more than 65,536.
+fn positions(d: &[u8]) {
+    let refusal = layout::design_tests::design_refusal(d);
+    if refusal != 0 {
+        return;
     }
+    let n = layout::positions::positions_of(d);
+    lines::line(b"  positions", n as u64);
 }
 
 // Searches with room for 1,024 positions.
