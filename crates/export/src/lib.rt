@@ -1,0 +1,72 @@
+// The calls for C and for Rust, as include/gorzhani.h declares them. A slice is a pointer and a length, a lent struct a pointer. Each call is the proved call
+// below it, and its answer is a number: -k for a refusal k, a count, or 0 for "done".
+ghost use mathlib.Core.Path.{_≡_};
+ghost use mathlib.Core.List.{[], _∷_};
+ghost use Prim.Native.Nat.{_≤_};
+ghost use lib.IntN.{pos};
+ghost use Rattle.layout.specs.Sizes.{most-records};
+ghost use Rattle.layout.specs.Answers.{Writes, Reads};
+ghost use Rattle.runner.specs.Ticks.{Ticks};
+ghost use Rattle.export.specs.Codes.{refusal-code, write-code, read-code, tick-code, Coded};
+use layout::answers::Read;
+use layout::answers::Written;
+use layout::files;
+use runner::Answer;
+use runner::Runner;
+
+// A refusal's number, negated.
+fn refused(k: u8) -> i32
+    ensures { λ r. ⌜ r ≡ refusal-code k ⌝ }
+{
+    -(k as i32)
+}
+
+// A count of records or of blocks.
+fn counted(n: usize) -> i32
+    requires { ⌜ n ≤ most-records ⌝ }
+    ensures { λ r. ⌜ r ≡ pos n ⌝ }
+{
+    n as i32
+}
+
+// The writer: the count of blocks.
+#[no_mangle]
+pub extern "C" fn gorzhani_write(converter: &[u8], blocks: &mut [u8]) -> i32
+    ensures { λ r. ⌜ Coded write-code (Writes (now (converter .entry)) (now (blocks .entry)) (now (blocks .exit))) r ⌝ }
+{
+    let answer = files::write(converter, blocks);
+    match answer {
+        Written::Blocks(n) => counted(n),
+        Written::Refused(k) => refused(k),
+    }
+}
+
+// The block reader: the count of records.
+#[no_mangle]
+pub extern "C" fn gorzhani_read(blocks: &[u8], converter: &mut [u8]) -> i32
+    ensures { λ r. ⌜ Coded read-code (Reads (now (blocks .entry)) (now (converter .entry)) (now (converter .exit))) r ⌝ }
+{
+    let answer = files::read(blocks, converter);
+    match answer {
+        Read::Records(n) => counted(n),
+        Read::Refused(k) => refused(k),
+    }
+}
+
+// The number of a tick's answer.
+fn tick_code(answer: Answer) -> i32
+    ensures { λ r. ⌜ r ≡ tick-code answer ⌝ }
+{
+    match answer {
+        Answer::Done => 0,
+        Answer::Refused(k) => refused(k),
+    }
+}
+
+// One tick: 0.
+#[no_mangle]
+pub extern "C" fn gorzhani_tick(converter: &[u8], runner: &mut Runner, first: i8, second: i8) -> i32
+    ensures { λ r. ⌜ Coded tick-code (λ a. Ticks (now (converter .entry)) (now (runner .entry)) (first ∷ second ∷ []) a (now (runner .exit))) r ⌝ }
+{
+    tick_code(runner::tick(converter, runner, first, second))
+}
