@@ -13,3 +13,5 @@ pub mod Formed
 pub mod TallyFrom
 pub mod ByIndex
 pub mod ObeysTest
+pub mod Judging
+pub mod Promise

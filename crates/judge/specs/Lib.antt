@@ -6,3 +6,5 @@ pub mod Until
 pub mod Always
 pub mod Labelling
 pub mod Matched
+pub mod Rules
+pub mod Judge

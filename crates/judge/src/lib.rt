@@ -1,8 +1,57 @@
-// The judge.
+// The judge: whether a converter is matched to the two tables of a design and keeps every rule, over lent work of 16 bytes a record.
+ghost use mathlib.Core.Path.{_≡_};
+ghost use lib.ListN.{length};
+ghost use Rattle.judge.specs.Judge.{judge-refusal, Judges};
+
 mod always;
 mod cells;
 mod graph;
 mod labels;
 mod matched;
+mod rules;
 mod sweeps;
 mod until;
+
+use layout::converters;
+use layout::design_tests;
+use layout::ranges;
+
+// Yes, or a refusal's number.
+pub enum Verdict {
+    Yes,
+    Refused(u8),
+}
+
+// The first of 1 to 8, 10, 11 and 13 that holds, with so much room lent for the cells, and 0 where none does.
+fn judge_refusal(design: &[u8], converter: &[u8], room: usize) -> u8
+    ensures { λ r. ⌜ r ≡ judge-refusal (now (design .entry)) (now (converter .entry)) room ⌝ }
+{
+    let of_design = design_tests::design_refusal(design);
+    if of_design != 0 {
+        return of_design;
+    }
+    let of_converter = converters::converter_refusal(converter);
+    if of_converter != 0 {
+        return of_converter;
+    }
+    if room < cells::CELL_BYTES * converters::count(converter) {
+        return 13;
+    }
+    0
+}
+
+// Whether the converter works for the design. The cells that were used are cleared last.
+pub fn judge(design: &[u8], converter: &[u8], work: &mut [u8]) -> Verdict
+    ensures { λ a. ⌜ Judges (now (design .entry)) (now (converter .entry)) (now (work .entry)) a (now (work .exit)) ⌝ }
+{
+    let refusal = judge_refusal(design, converter, work.len());
+    if refusal != 0 {
+        return Verdict::Refused(refusal);
+    }
+    let found = rules::verdict(design, converter, work);
+    ranges::fill(work, 0, cells::CELL_BYTES * converters::count(converter), 0);
+    if found != 0 {
+        return Verdict::Refused(found);
+    }
+    Verdict::Yes
+}
