@@ -33,3 +33,6 @@ pub mod Emitting
 pub mod Serving
 pub mod Working
 pub mod Emissions
+pub mod Refused
+pub mod Found
+pub mod Answers

@@ -10,3 +10,4 @@ pub mod Steps
 pub mod Queue
 pub mod Choices
 pub mod Emission
+pub mod Search
