@@ -1,4 +1,4 @@
--- What a caller in C is answered: a refusal k is -k, any other answer is a count, or 0 for "done".
+-- What a caller in C is answered: a refusal k is -k, any other answer is a count, or 0 for "yes" and "done".
 use mathlib.Core.Path.{_≡_}
 use Prim.Native.Nat.{ℕ}
 use lib.IntN.{ℤ, pos, negℤ}
@@ -6,11 +6,17 @@ use Rattle.layout.specs.declared.answers.Written.{Written}
 use Rattle.layout.specs.declared.answers.Written.the-variants as written
 use Rattle.layout.specs.declared.answers.Read.{Read}
 use Rattle.layout.specs.declared.answers.Read.the-variants as read
+use Rattle.judge.specs.declared.Verdict.{Verdict}
+use Rattle.judge.specs.declared.Verdict.the-variants as verdict
 use Rattle.runner.specs.declared.Answer.{Answer}
 use Rattle.runner.specs.declared.Answer.the-variants as tick
 
 abbrev pub refusal-code : ℕ → ℤ
 refusal-code k = negℤ (pos k)
+
+abbrev pub judge-code : Verdict → ℤ
+judge-code verdict.Yes = pos 0
+judge-code (verdict.Refused k) = refusal-code k
 
 abbrev pub write-code : Written → ℤ
 write-code (written.Blocks n) = pos n

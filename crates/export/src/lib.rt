@@ -1,13 +1,15 @@
 // The calls for C and for Rust, as include/gorzhani.h declares them. A slice is a pointer and a length, a lent struct a pointer. Each call is the proved call
-// below it, and its answer is a number: -k for a refusal k, a count, or 0 for "done".
+// below it, and its answer is a number: -k for a refusal k, a count, or 0 for "yes" and "done".
 ghost use mathlib.Core.Path.{_≡_};
 ghost use mathlib.Core.List.{[], _∷_};
 ghost use Prim.Native.Nat.{_≤_};
 ghost use lib.IntN.{pos};
 ghost use Rattle.layout.specs.Sizes.{most-records};
 ghost use Rattle.layout.specs.Answers.{Writes, Reads};
+ghost use Rattle.judge.specs.Judge.{Judges};
 ghost use Rattle.runner.specs.Ticks.{Ticks};
-ghost use Rattle.export.specs.Codes.{refusal-code, write-code, read-code, tick-code, Coded};
+ghost use Rattle.export.specs.Codes.{refusal-code, judge-code, write-code, read-code, tick-code, Coded};
+use judge::Verdict;
 use layout::answers::Read;
 use layout::answers::Written;
 use layout::files;
@@ -27,6 +29,18 @@ fn counted(n: usize) -> i32
     ensures { λ r. ⌜ r ≡ pos n ⌝ }
 {
     n as i32
+}
+
+// The judge: 0 for a yes.
+#[no_mangle]
+pub extern "C" fn gorzhani_judge(design: &[u8], converter: &[u8], work: &mut [u8]) -> i32
+    ensures { λ r. ⌜ Coded judge-code (λ a. Judges (now (design .entry)) (now (converter .entry)) (now (work .entry)) a (now (work .exit))) r ⌝ }
+{
+    let answer = judge::judge(design, converter, work);
+    match answer {
+        Verdict::Yes => 0,
+        Verdict::Refused(k) => refused(k),
+    }
 }
 
 // The writer: the count of blocks.
