@@ -18,10 +18,7 @@ fn as_many_records_as_there_may_be() {
     assert!(blocks[4_682 * BLOCK..].iter().all(|&byte| byte == 0xA5));
     let mut again = vec![0x5A; converter.len() + 9];
     assert_eq!(gorzhani::read(&blocks[..4_682 * BLOCK], &mut again), Ok(65_536));
-    assert!(
-        again[..converter.len()] == converter
-            && again[converter.len()..].iter().all(|&byte| byte == 0x5A)
-    );
+    assert!(again[..converter.len()] == converter && again[converter.len()..].iter().all(|&byte| byte == 0x5A));
     let mut other = vec![0; 4_682 * BLOCK];
     assert_eq!(write_blocks(&converter, &mut other), Ok(4_682));
     assert!(other == blocks[..4_682 * BLOCK]);
