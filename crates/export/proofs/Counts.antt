@@ -1,20 +1,30 @@
--- A count that the writer or the block reader answers is no higher than the most records that a converter has.
+-- A count that the search, the writer or the block reader answers is no higher than the most records that a converter has.
 use mathlib.Core.Path.{_≡_, subst}
 use mathlib.Core.List.{List}
-use Prim.Native.Nat.{ℕ, _≤_}
+use Prim.Native.Nat.{ℕ, _*_, _≤_}
 use native.Mathlib.Omega.{arith}
-use lib.ListN.{length}
+use lib.ListN.{length, take}
 use Rattle.layout.specs.declared.answers.Written.{Written}
 use Rattle.layout.specs.declared.answers.Written.the-variants.{Blocks}
 use Rattle.layout.specs.declared.answers.Read.{Read}
 use Rattle.layout.specs.declared.answers.Read.the-variants.{Records}
-use Rattle.layout.specs.Sizes.{most-records}
+use Rattle.layout.specs.Sizes.{record-bytes, most-records}
 use Rattle.layout.specs.Converters.{records}
 use Rattle.layout.specs.Files.{file-count, blocks-for}
 use Rattle.layout.specs.Answers.{Writes, Reads}
 use Rattle.layout.proofs.Accepted.{accepted, write-accepted}
 use Rattle.layout.proofs.AcceptedFiles.{read-accepted}
+use Rattle.search.specs.declared.Outcome.{Outcome}
+use Rattle.search.specs.declared.Outcome.the-variants.{Found}
+use Rattle.search.specs.Search.{Searches}
+use Rattle.search.proofs.Answers.{found-in}
 use Rattle.layout.proofs.Outcomes.{write-does, write-passed, read-does, read-passed}
+
+module _ (ds table work : List ℕ) (a : Outcome) (table′ work′ : List ℕ) where
+  pub search-count : Searches ds table work a table′ work′ → (n : ℕ) → a ≡ Found n → n ≤ most-records
+  search-count S n e =
+      let f = found-in ds table work a table′ work′ S n e in
+      omega (arith, f .counts, accepted (take (record-bytes * n) table′) (f .right) .at-most)
 
 module _ (cs before after : List ℕ) where
   pub write-count : (x : Written) → Writes cs before after x → (n : ℕ) → x ≡ Blocks n → n ≤ most-records

@@ -6,6 +6,8 @@ use Rattle.layout.specs.declared.answers.Written.{Written}
 use Rattle.layout.specs.declared.answers.Written.the-variants as written
 use Rattle.layout.specs.declared.answers.Read.{Read}
 use Rattle.layout.specs.declared.answers.Read.the-variants as read
+use Rattle.search.specs.declared.Outcome.{Outcome}
+use Rattle.search.specs.declared.Outcome.the-variants as outcome
 use Rattle.judge.specs.declared.Verdict.{Verdict}
 use Rattle.judge.specs.declared.Verdict.the-variants as verdict
 use Rattle.runner.specs.declared.Answer.{Answer}
@@ -13,6 +15,10 @@ use Rattle.runner.specs.declared.Answer.the-variants as tick
 
 abbrev pub refusal-code : ℕ → ℤ
 refusal-code k = negℤ (pos k)
+
+abbrev pub search-code : Outcome → ℤ
+search-code (outcome.Found n) = pos n
+search-code (outcome.Refused k) = refusal-code k
 
 abbrev pub judge-code : Verdict → ℤ
 judge-code verdict.Yes = pos 0

@@ -7,14 +7,16 @@ ghost use lib.IntN.{pos};
 ghost use Rattle.layout.specs.Sizes.{most-records};
 ghost use Rattle.layout.specs.Answers.{Writes, Reads};
 ghost use Rattle.judge.specs.Judge.{Judges};
+ghost use Rattle.search.specs.Search.{Searches};
 ghost use Rattle.runner.specs.Ticks.{Ticks};
-ghost use Rattle.export.specs.Codes.{refusal-code, judge-code, write-code, read-code, tick-code, Coded};
+ghost use Rattle.export.specs.Codes.{refusal-code, search-code, judge-code, write-code, read-code, tick-code, Coded};
 use judge::Verdict;
 use layout::answers::Read;
 use layout::answers::Written;
 use layout::files;
 use runner::Answer;
 use runner::Runner;
+use search::Outcome;
 
 // A refusal's number, negated.
 fn refused(k: u8) -> i32
@@ -29,6 +31,18 @@ fn counted(n: usize) -> i32
     ensures { λ r. ⌜ r ≡ pos n ⌝ }
 {
     n as i32
+}
+
+// The search: the count of records.
+#[no_mangle]
+pub extern "C" fn gorzhani_search(design: &[u8], table: &mut [u8], work: &mut [u8]) -> i32
+    ensures { λ r. ⌜ Coded search-code (λ a. Searches (now (design .entry)) (now (table .entry)) (now (work .entry)) a (now (table .exit)) (now (work .exit))) r ⌝ }
+{
+    let answer = search::search(design, table, work);
+    match answer {
+        Outcome::Found(n) => counted(n as usize),
+        Outcome::Refused(k) => refused(k),
+    }
 }
 
 // The judge: 0 for a yes.
