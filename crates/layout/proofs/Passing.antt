@@ -34,6 +34,16 @@ pub stops-at : (t : Test) (ts : List Test) → t .passes ≡ false → first-fai
 unfolding first-failing
 stops-at t ts e = ap (λ b. cond b (first-failing ts) (t .number)) e
 
+-- tests whose numbers are below n give a number below n
+pub failing-below : (n : ℕ) (ts : List Test) → 0 < n → all (λ t. ltb (t .number) n) ts ≡ true → first-failing ts < n
+unfolding first-failing all
+failing-below n [] h a = h
+failing-below n (t ∷ ts) h a = by (t .passes) (failing-below n ts h (and-right (ltb (t .number) n) (all (λ t. ltb (t .number) n) ts) a))
+  where
+    by : (b : Bool) → first-failing ts < n → cond b (first-failing ts) (t .number) < n
+    by true l = l
+    by false l = ltb-true (t .number) n (and-left (ltb (t .number) n) (all (λ t. ltb (t .number) n) ts) a)
+
 -- ---- one list behind another
 -- a refusal by the first list is the answer
 pub refused-first : (ts us : List Test) → (first-failing ts ≡ 0 → ⊥) → first-failing (ts ++ us) ≡ first-failing ts

@@ -60,5 +60,4 @@ pub mod Runs
 pub mod Formed
 pub mod Ways
 pub mod Refuted
-pub mod RowData
 pub mod Rows

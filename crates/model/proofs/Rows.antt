@@ -1,91 +1,78 @@
--- Theorem 6: the starred rows of 01 for the judge and the search, as one table of data with one test that computes, and what a passed row says of the
--- definitions.
+-- Theorem 6: the starred rows of 01 are true. One test computes on the whole table, and a row that passes it says what `Meaning` says.
 use mathlib.Core.Path.{_≡_, refl, subst⁻¹}
-use mathlib.Core.Bool.{Bool, not, _&&_}
+use mathlib.Core.Bool.{Bool, true, false, not, _&&_}
 use mathlib.Core.List.{List, [], _∷_, List·Memᴰ as In}
+use mathlib.Core.Option.{Option, none, some}
 use Prim.Native.Nat.{ℕ}
 use lib.Dec.{T, T-not, eqb, eqb→eq}
-use Rattle.model.specs.Converters.{Converter, any-input, any-delayed, duty, Matched}
-use Rattle.model.specs.Designs.{Design, WellFormed, Keeps, Works, NoneWorks}
+use Rattle.model.specs.Events.{Event, tick}
+use Rattle.model.specs.Converters.{Edge, Converter, node, side-events, any-input, any-delayed, duty, Matched}
+use Rattle.model.specs.Designs.{Design}
 use Rattle.model.specs.Sides.{any-sent, kind}
 use Rattle.model.specs.Joined.{labelled}
 use Rattle.model.specs.Positions.{any, is-until, is-always, is-next-of, kept, one-if, count, kept-count, until-count, joint-count, positions}
-use Rattle.model.specs.Judged.{all, tally, same-list, with-move, with-moves, joint-moves, names?, once?, follows?, fulfils?, obeys?, matched?, until-by, always-for, Verdict, accepted, unmatched, violated, number, judged}
+use Rattle.model.specs.Judged.{all, tally, same-list, same-events, with-move, with-moves, joint-moves, names?, once?, follows?, fulfils?, obeys?, matched?, until-by, always-for, Verdict, accepted, unmatched, violated, number, judged}
+use Rattle.model.specs.Runs.{Runner, done, refused, fits, all-fit, first-fit, taken, ticked}
+use Rattle.model.specs.RowData.{minus}
+use Rattle.model.specs.Rows.{Row, kept-are, positions-are, judge-says, keeps-rule, fails-rule, converter-for, none-for, tick-takes, tick-refused, Meaning, rows}
 use Rattle.model.proofs.Bools.{and-both}
 use Rattle.model.proofs.Lists.{all-in, any-in}
+use Rattle.model.proofs.JointMoves.{same-events-eq}
 use Rattle.model.proofs.MatchedTest.{matched-sound}
 use Rattle.model.proofs.Judged.{kept-at-start, label-keeps, judged-accepts}
 use Rattle.model.proofs.Formed.{all-below, distinct?, state?, sends?, kind?, side?, lower?, prop?, well-formed?, formed}
 use Rattle.model.proofs.Ways.{both-ways, either-way, ways-all}
-use Rattle.model.proofs.Refuted.{Refutation, show-at, showing, every-answer, lost, covers, withheld, never, refutes, refuted-none}
-use Rattle.model.proofs.RowData.{H, H-printed, H-mended, H-until, F, F-deaf, F-third, printed-clash, until-waits, turns, turns-converter, fork-either, fork-two, fork-both, fork-first, fork-open, fork-clash}
+use Rattle.model.proofs.Refuted.{Choice, Refutation, clash, waits, show-at, showing, every-answer, lost, covers, withheld, never, refutes, refuted-none}
 
-pub data Row : Type 0 where
-  -- how many formulas of the design are kept
-  kept-are : Design → ℕ → Row
-  -- how many positions it has
-  positions-are : Design → ℕ → Row
-  -- what the judge answers
-  judge-says : Design → Converter → Verdict → Row
-  -- a rule of the design that a matched converter keeps, or fails
-  keeps-rule fails-rule : Design → Converter → ℕ → Row
-  -- a converter that the search may find
-  converter-for : Design → Converter → Row
-  -- the search's 16
-  none-for : Design → Refutation → Row
+-- ---- the refutations behind the rows with 16
+-- at this pair of states the sides show these events
+abbrev shown-at : ℕ → ℕ → Event → Event → Choice
+shown-at s t e f = record { at = s ∷ t ∷ []; show = e ∷ f ∷ [] }
 
--- the starred rows, in 01's order
-abbrev pub rows : List Row
-rows =
-    -- H, no rules: 4 positions, a converter
-    positions-are H 4 ∷ converter-for H F
-    -- the paper's four rules as printed: 8 kept, 1,024 positions, 16
-    ∷ kept-are H-printed 8 ∷ positions-are H-printed 1024 ∷ none-for H-printed printed-clash
-    -- F against them: 15; the first three hold, the fourth fails
-    ∷ judge-says H-printed F violated ∷ keeps-rule H-printed F 8 ∷ keeps-rule H-printed F 17 ∷ keeps-rule H-printed F 26 ∷ fails-rule H-printed F 35
-    -- with the fourth ending AX(¬1 ∨ 2): F passes, a converter is found
-    ∷ judge-says H-mended F accepted ∷ converter-for H-mended F
-    -- H, A(true U 1): 8 positions, 16
-    ∷ positions-are H-until 8 ∷ none-for H-until until-waits
-    -- F without (0,0) in record 0: 14; with a third transition of record 0: 14
-    ∷ judge-says H-mended F-deaf unmatched ∷ judge-says H-mended F-third unmatched
-    -- two states ticking in turn, AG(A(true U 0) ∧ A(true U 1)): 32 positions, a converter
-    ∷ positions-are turns 32 ∷ converter-for turns turns-converter
-    -- (AX 0) or (AX 1): 24 positions, a converter; one that enables both inputs: 15
-    ∷ positions-are fork-either 24 ∷ converter-for fork-either fork-first ∷ judge-says fork-either fork-open violated
-    -- AX 0 and AX 1 both, as two rules and as one: 16
-    ∷ none-for fork-two fork-clash ∷ none-for fork-both fork-clash
+abbrev refutations : List Refutation
+refutations =
+    -- H, the rules as printed. s0 sends 1. If t0 moves with it, s1 waits, against the second rule. If t0 stays, s1 sends 2; by the third rule t0 moves
+    -- then, and s0 sends 1 again, against the fourth.
+    clash 3 (shown-at 0 0 (minus 1) tick ∷ shown-at 1 1 tick tick ∷ shown-at 1 0 (minus 2) tick ∷ shown-at 0 1 (minus 1) tick ∷ [])
+    -- H, A(true U 1): s0 waits for ever
+    ∷ waits 2 (shown-at 0 0 tick tick ∷ shown-at 0 1 tick tick ∷ [])
+    -- AX 0 and AX 1: after one tick h1 lacks one label, h2 the other
+    ∷ clash 1 (shown-at 0 0 tick tick ∷ [])
     ∷ []
 
 -- ---- the test
-unfoldable pub row-test : Row → Bool
+-- the transition that a tick takes leads to record d and has these side events
+unfoldable leads : ℕ → List Event → Option Edge → Bool
+leads d es none = false
+leads d es (some e) = eqb (e .next) d && same-events (side-events e) es
+
+-- no transition fits
+unfoldable stuck : Option Edge → Bool
+stuck none = true
+stuck (some e) = false
+
+unfoldable row-test : Row → Bool
 row-test (kept-are D n) = well-formed? D && eqb (kept-count D) n
 row-test (positions-are D n) = well-formed? D && eqb (positions D) n
 row-test (judge-says D C v) = well-formed? D && eqb (number (judged D C)) (number v)
 row-test (keeps-rule D C r) = well-formed? D && (matched? (D .sides) C && any (eqb r) (D .rules) && kept-at-start D C r)
 row-test (fails-rule D C r) = well-formed? D && (matched? (D .sides) C && any (eqb r) (D .rules) && not (kept-at-start D C r))
 row-test (converter-for D C) = well-formed? D && eqb (number (judged D C)) (number accepted)
-row-test (none-for D R) = well-formed? D && refutes D R
+row-test (none-for D) = well-formed? D && any (refutes D) refutations
+row-test (tick-takes C c xs d es) = leads d es (first-fit xs (node C c .edges))
+row-test (tick-refused C c xs k) = stuck (first-fit xs (node C c .edges)) && eqb 17 k
 
 -- every row passes
-pub rows-pass : T (all row-test rows)
+rows-pass : T (all row-test rows)
 unfolding row-test all any
     well-formed? side? all-below state? distinct? kind? sends? any-sent lower? prop?
     positions joint-count kept-count kept count until-count one-if is-until is-always is-next-of
     judged matched? obeys? names? once? follows? fulfils? joint-moves with-moves with-move same-list tally duty any-input any-delayed kind until-by always-for labelled
     refutes lost show-at showing every-answer covers withheld never ways-all both-ways either-way
+    leads stuck first-fit all-fit fits
 rows-pass = tt
 
--- ---- what a row says of the definitions
-abbrev pub Meaning : Row → Type 0
-Meaning (kept-are D n) = WellFormed D × (kept-count D ≡ n)
-Meaning (positions-are D n) = WellFormed D × (positions D ≡ n)
-Meaning (judge-says D C v) = WellFormed D × (judged D C ≡ v)
-Meaning (keeps-rule D C r) = WellFormed D × Matched (D .sides) C × In r (D .rules) × Keeps D C r
-Meaning (fails-rule D C r) = WellFormed D × Matched (D .sides) C × In r (D .rules) × (Keeps D C r → ⊥)
-Meaning (converter-for D C) = WellFormed D × Works D C
-Meaning (none-for D R) = WellFormed D × NoneWorks D
-
+-- ---- a row that passes is true
 -- an answer is known by its number
 same-answer : (v w : Verdict) → T (eqb (number v) (number w)) → v ≡ w
 same-answer accepted accepted t = refl
@@ -106,9 +93,23 @@ rule-label D C r b t =
     let i = any-in (eqb r) (D .rules) (x .1) in
     (matched-sound (D .sides) C (x .0), subst⁻¹ (λ (y : ℕ). In y (D .rules)) (eqb→eq r (i .0) (i .2)) (i .1), w .1)
 
--- a row that passes is true
-pub row-means : (r : Row) → T (row-test r) → Meaning r
-unfolding row-test
+-- what a tick does, by the transition that fits first
+takes : (r : Runner) (d : ℕ) (es : List Event) (o : Option Edge) → T (leads d es o) → taken r o ≡ record { answer = done; runner = record { at = d; delivered = es } }
+unfolding leads taken
+takes r d es none t = absurd t
+takes r d es (some e) t =
+    let w = and-both (eqb (e .next) d) (same-events (side-events e) es) t in
+    let p : e .next ≡ d = eqb→eq (e .next) d (w .0) in
+    let q : side-events e ≡ es = same-events-eq (side-events e) es (w .1) in
+    cc
+
+refuses : (r : Runner) (k : ℕ) (o : Option Edge) → T (stuck o && eqb 17 k) → taken r o ≡ record { answer = refused k; runner = r }
+unfolding stuck taken
+refuses r k none t = let p : 17 ≡ k = eqb→eq 17 k t in cc
+refuses r k (some e) t = absurd t
+
+row-means : (r : Row) → T (row-test r) → Meaning r
+unfolding row-test ticked
 row-means (kept-are D n) t = let w = and-both (well-formed? D) (eqb (kept-count D) n) t in (formed D (w .0), eqb→eq (kept-count D) n (w .1))
 row-means (positions-are D n) t = let w = and-both (well-formed? D) (eqb (positions D) n) t in (formed D (w .0), eqb→eq (positions D) n (w .1))
 row-means (judge-says D C v) t = let w = and-both (well-formed? D) (eqb (number (judged D C)) (number v)) t in (formed D (w .0), same-answer (judged D C) v (w .1))
@@ -126,7 +127,13 @@ row-means (converter-for D C) t =
     let w = and-both (well-formed? D) (eqb (number (judged D C)) (number accepted)) t in
     let wf = formed D (w .0) in
     (wf, judged-accepts D wf C .0 (same-answer (judged D C) accepted (w .1)))
-row-means (none-for D R) t = let w = and-both (well-formed? D) (refutes D R) t in let wf = formed D (w .0) in (wf, refuted-none D wf R (w .1))
+row-means (none-for D) t =
+    let w = and-both (well-formed? D) (any (refutes D) refutations) t in
+    let wf = formed D (w .0) in
+    let R = any-in (refutes D) refutations (w .1) in
+    (wf, refuted-none D wf (R .0) (R .2))
+row-means (tick-takes C c xs d es) t = λ before. takes (record { at = c; delivered = before }) d es (first-fit xs (node C c .edges)) t
+row-means (tick-refused C c xs k) t = λ before. refuses (record { at = c; delivered = before }) k (first-fit xs (node C c .edges)) t
 
 -- the theorem: every starred row is true
 pub starred-rows : (r : Row) → In r rows → Meaning r

@@ -9,3 +9,5 @@ pub mod Designs
 pub mod Positions
 pub mod Judged
 pub mod Runs
+pub mod RowData
+pub mod Rows

@@ -60,6 +60,103 @@ pub fn four_rules(d: &mut [u8; 2048], mended: bool) {
     build::rule(d, 3, 35);
 }
 
+// A(true U true) as three formulas from number k on, where formula 0 is "true".
+fn three_untils(d: &mut [u8; 2048], k: usize)
+    requires { ⌜ k < 60 ⌝ }
+{
+    build::formula(d, k, 8, 0, 0);
+    build::formula(d, k + 1, 8, 0, 0);
+    build::formula(d, k + 2, 8, 0, 0);
+}
+
+// H with "true" and 12 untils, each kept: 196,608 positions.
+pub fn many_kept(d: &mut [u8; 2048]) {
+    handshake(d);
+    build::formula(d, 0, 1, 0, 0);
+    three_untils(d, 1);
+    three_untils(d, 4);
+    three_untils(d, 7);
+    three_untils(d, 10);
+    seal_pair(d, 13, 0);
+}
+
+// H with A(true U 1).
+pub fn must_send(d: &mut [u8; 2048]) {
+    handshake(d);
+    build::formula(d, 0, 1, 0, 0);
+    build::formula(d, 1, 3, 1, 0);
+    build::formula(d, 2, 8, 0, 1);
+    build::rule(d, 0, 2);
+    seal_pair(d, 3, 1);
+}
+
+// Two states ticking in turn, labels 0 and 1, beside one ticking state; AG(A(true U 0) and A(true U 1)).
+pub fn in_turn(d: &mut [u8; 2048]) {
+    build::state(d, 0, 0, 1, 1);
+    build::place(d, 0, 0, 0, 0, 1);
+    build::state(d, 0, 1, 2, 1);
+    build::place(d, 0, 1, 0, 0, 0);
+    build::state(d, 1, 0, 0, 1);
+    build::formula(d, 0, 1, 0, 0);
+    build::formula(d, 1, 3, 0, 0);
+    build::formula(d, 2, 3, 1, 0);
+    build::formula(d, 3, 8, 0, 1);
+    build::formula(d, 4, 8, 0, 2);
+    build::formula(d, 5, 5, 3, 4);
+    build::formula(d, 6, 9, 5, 0);
+    build::rule(d, 0, 6);
+    build::seal(d, 0, 2);
+    build::seal(d, 1, 1);
+    build::seal(d, 2, 7);
+    build::seal(d, 3, 1);
+}
+
+// One ticking state beside h0 (1 to h1, 2 to h2), h1 label 0, h2 label 1, both ticking; AX 0 is formula 2 and AX 1 formula 3.
+fn fork(d: &mut [u8; 2048]) {
+    build::state(d, 0, 0, 0, 1);
+    build::state(d, 1, 0, 0, 2);
+    build::place(d, 1, 0, 0, 1, 1);
+    build::place(d, 1, 0, 1, 2, 2);
+    build::state(d, 1, 1, 1, 1);
+    build::place(d, 1, 1, 0, 0, 1);
+    build::state(d, 1, 2, 2, 1);
+    build::place(d, 1, 2, 0, 0, 2);
+    build::formula(d, 0, 3, 0, 0);
+    build::formula(d, 1, 3, 1, 0);
+    build::formula(d, 2, 7, 0, 0);
+    build::formula(d, 3, 7, 1, 0);
+}
+
+fn seal_fork(d: &mut [u8; 2048], formulas: u8, rules: u8) {
+    build::seal(d, 0, 1);
+    build::seal(d, 1, 3);
+    build::seal(d, 2, formulas);
+    build::seal(d, 3, rules);
+}
+
+// The fork with AX 0 and AX 1 under one sign as the rule: kind 5 is and, kind 6 or.
+pub fn fork_one_rule(d: &mut [u8; 2048], kind: u8) {
+    fork(d);
+    build::formula(d, 4, kind, 2, 3);
+    build::rule(d, 0, 4);
+    seal_fork(d, 5, 1);
+}
+
+// The fork with AX 0 and AX 1 as two rules.
+pub fn fork_two_rules(d: &mut [u8; 2048]) {
+    fork(d);
+    build::rule(d, 0, 2);
+    build::rule(d, 1, 3);
+    seal_fork(d, 4, 2);
+}
+
+// H with the paper's four rules.
+pub fn ruled(d: &mut [u8; 2048], mended: bool) {
+    handshake(d);
+    four_rules(d, mended);
+    seal_pair(d, 36, 4);
+}
+
 // ---- reading
 
 fn read(words: &[u8], d: &[u8; 2048]) {

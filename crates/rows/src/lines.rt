@@ -8,6 +8,16 @@ pub fn line(words: &[u8], n: u64) {
     io::write_all(1, b"\n");
 }
 
+// A line: the words, and whether it is so.
+pub fn yes_or_no(words: &[u8], is: bool) {
+    io::write_all(1, words);
+    if is {
+        io::write_all(1, b": yes\n");
+    } else {
+        io::write_all(1, b": no\n");
+    }
+}
+
 // Bytes added up, wrapping at 65,536.
 pub fn checks() {
     let block = [255u8; 512];

@@ -1,13 +1,17 @@
 // Runs the rows of the specification on bytes. For each it writes a line: what was tried, and the answer, which is 0 for yes and done, a count, or the
-// number of a refusal.
+// number of a refusal. Where bytes are lent for a result, a second line says whether they are as they were.
 mod build;
 mod bytes;
 mod designs;
+mod files;
+mod judging;
 mod lines;
 mod ticks;
 
 fn main() {
     lines::checks();
     designs::rows();
+    files::rows();
+    judging::rows();
     ticks::rows();
 }

@@ -36,3 +36,4 @@ pub mod Emissions
 pub mod Refused
 pub mod Found
 pub mod Answers
+pub mod Judged

@@ -5,7 +5,10 @@ mod samples;
 use checker::bytes::{check, converter_bytes, positions, read_design, Design, Formula, Record};
 use checker::judge::failing_rules;
 use checker::tick::Runner;
-use samples::{figure_five, handshake, judged_well, record, ruled_handshake, searched, state};
+use samples::{
+    figure_five, handshake, judged_well, next_zero_next_one, record, rings, ruled_handshake,
+    searched, state, ticking_in_turn, two_inputs,
+};
 
 #[test]
 fn handshake_without_rules() {
@@ -76,30 +79,9 @@ fn figure_five_ticking() {
 
 #[test]
 fn two_states_ticking_in_turn() {
-    let turning = vec![state(&[0], &[(0, 1)]), state(&[1], &[(0, 0)])];
-    let formulas = vec![
-        Formula::True,
-        Formula::Proposition(0),
-        Formula::Proposition(1),
-        Formula::Until(0, 1),
-        Formula::Until(0, 2),
-        Formula::And(3, 4),
-        Formula::Always(5),
-    ];
-    let design = Design { sides: [turning, vec![state(&[], &[(0, 0)])]], formulas, rules: vec![6] };
+    let design = ticking_in_turn();
     assert_eq!(positions(&design), 32);
     assert!(searched(&design).is_ok());
-}
-
-/// One ticking state beside h0, h1 and h2.
-fn two_inputs(formulas: Vec<Formula>, rules: Vec<u8>) -> Design {
-    let host = vec![state(&[], &[(1, 1), (2, 2)]), state(&[0], &[(0, 1)]), state(&[1], &[(0, 2)])];
-    Design { sides: [vec![state(&[], &[(0, 0)])], host], formulas, rules }
-}
-
-/// AX 0, then AX 1.
-fn next_zero_next_one() -> Vec<Formula> {
-    vec![Formula::Proposition(0), Formula::Proposition(1), Formula::Next(0), Formula::Next(1)]
 }
 
 /// A converter for the two inputs that enables some of them.
@@ -130,35 +112,6 @@ fn both_of_two_inputs() {
     let mut formulas = next_zero_next_one();
     formulas.push(Formula::And(2, 3));
     assert_eq!(searched(&two_inputs(formulas, vec![4])), Err(16));
-}
-
-/// Two rings of sixteen states, each of which ticks on or reads 1 and stays.
-/// State 15 has label 0 on side 1 and label 1 on side 2. Eight formulas are
-/// kept: 2, 3, 4, 5, 6, 8, 11 and 15.
-fn rings(last: Formula) -> Design {
-    let ring = |proposition: u8| {
-        let label = |own: u8| if own == 15 { vec![proposition] } else { vec![] };
-        (0..16).map(|own: u8| state(&label(own), &[(0, (own + 1) % 16), (1, own)])).collect()
-    };
-    let formulas = vec![
-        Formula::True,
-        Formula::Proposition(0),
-        Formula::Until(0, 1),
-        Formula::Always(2),
-        Formula::Proposition(1),
-        Formula::NotProposition(1),
-        Formula::NotProposition(0),
-        Formula::Or(6, 5),
-        Formula::Always(7),
-        Formula::Next(6),
-        Formula::Or(6, 9),
-        Formula::Always(10),
-        Formula::Next(5),
-        Formula::Next(4),
-        Formula::Or(13, 12),
-        last,
-    ];
-    Design { sides: [ring(0), ring(1)], formulas, rules: vec![3, 8, 11, 15] }
 }
 
 #[test]

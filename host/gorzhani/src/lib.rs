@@ -28,11 +28,41 @@ pub struct Runner {
 }
 
 extern "C" {
-    fn gorzhani_search(design: *const u8, design_len: usize, table: *mut u8, table_len: usize, work: *mut u8, work_len: usize) -> i32;
-    fn gorzhani_judge(design: *const u8, design_len: usize, converter: *const u8, converter_len: usize, work: *mut u8, work_len: usize) -> i32;
-    fn gorzhani_write(converter: *const u8, converter_len: usize, blocks: *mut u8, blocks_len: usize) -> i32;
-    fn gorzhani_read(blocks: *const u8, blocks_len: usize, converter: *mut u8, converter_len: usize) -> i32;
-    fn gorzhani_tick(converter: *const u8, converter_len: usize, runner: *mut Runner, first: i8, second: i8) -> i32;
+    fn gorzhani_search(
+        design: *const u8,
+        design_len: usize,
+        table: *mut u8,
+        table_len: usize,
+        work: *mut u8,
+        work_len: usize,
+    ) -> i32;
+    fn gorzhani_judge(
+        design: *const u8,
+        design_len: usize,
+        converter: *const u8,
+        converter_len: usize,
+        work: *mut u8,
+        work_len: usize,
+    ) -> i32;
+    fn gorzhani_write(
+        converter: *const u8,
+        converter_len: usize,
+        blocks: *mut u8,
+        blocks_len: usize,
+    ) -> i32;
+    fn gorzhani_read(
+        blocks: *const u8,
+        blocks_len: usize,
+        converter: *mut u8,
+        converter_len: usize,
+    ) -> i32;
+    fn gorzhani_tick(
+        converter: *const u8,
+        converter_len: usize,
+        runner: *mut Runner,
+        first: i8,
+        second: i8,
+    ) -> i32;
 }
 
 fn answer(code: i32) -> Result<usize, Refused> {
@@ -45,29 +75,55 @@ fn answer(code: i32) -> Result<usize, Refused> {
 /// Searches a converter for a design. The count of records at the front of the table, or the refusal; 16 where none exists.
 pub fn search(design: &[u8], table: &mut [u8], work: &mut [u8]) -> Result<usize, Refused> {
     // SAFETY: the slices are valid for their lengths, and two `&mut` and a `&` do not overlap.
-    answer(unsafe { gorzhani_search(design.as_ptr(), design.len(), table.as_mut_ptr(), table.len(), work.as_mut_ptr(), work.len()) })
+    answer(unsafe {
+        gorzhani_search(
+            design.as_ptr(),
+            design.len(),
+            table.as_mut_ptr(),
+            table.len(),
+            work.as_mut_ptr(),
+            work.len(),
+        )
+    })
 }
 
 /// Judges a converter against a design.
 pub fn judge(design: &[u8], converter: &[u8], work: &mut [u8]) -> Result<(), Refused> {
     // SAFETY: as above; the design and the converter are only read.
-    answer(unsafe { gorzhani_judge(design.as_ptr(), design.len(), converter.as_ptr(), converter.len(), work.as_mut_ptr(), work.len()) }).map(|_| ())
+    answer(unsafe {
+        gorzhani_judge(
+            design.as_ptr(),
+            design.len(),
+            converter.as_ptr(),
+            converter.len(),
+            work.as_mut_ptr(),
+            work.len(),
+        )
+    })
+    .map(|_| ())
 }
 
 /// Writes a converter as blocks. The count of blocks.
 pub fn write(converter: &[u8], blocks: &mut [u8]) -> Result<usize, Refused> {
     // SAFETY: as above.
-    answer(unsafe { gorzhani_write(converter.as_ptr(), converter.len(), blocks.as_mut_ptr(), blocks.len()) })
+    answer(unsafe {
+        gorzhani_write(converter.as_ptr(), converter.len(), blocks.as_mut_ptr(), blocks.len())
+    })
 }
 
 /// Reads a converter from blocks. The count of records.
 pub fn read(blocks: &[u8], converter: &mut [u8]) -> Result<usize, Refused> {
     // SAFETY: as above.
-    answer(unsafe { gorzhani_read(blocks.as_ptr(), blocks.len(), converter.as_mut_ptr(), converter.len()) })
+    answer(unsafe {
+        gorzhani_read(blocks.as_ptr(), blocks.len(), converter.as_mut_ptr(), converter.len())
+    })
 }
 
 /// One tick of a converter.
 pub fn tick(converter: &[u8], runner: &mut Runner, shown: [i8; 2]) -> Result<(), Refused> {
     // SAFETY: as above; `Runner` has the layout of the header's struct.
-    answer(unsafe { gorzhani_tick(converter.as_ptr(), converter.len(), runner, shown[0], shown[1]) }).map(|_| ())
+    answer(unsafe {
+        gorzhani_tick(converter.as_ptr(), converter.len(), runner, shown[0], shown[1])
+    })
+    .map(|_| ())
 }

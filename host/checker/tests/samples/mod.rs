@@ -78,6 +78,61 @@ pub fn ruled_handshake(as_printed: bool) -> Design {
     handshake(formulas, rules)
 }
 
+/// Two states ticking in turn beside one ticking state, each label again and again.
+pub fn ticking_in_turn() -> Design {
+    let turning = vec![state(&[0], &[(0, 1)]), state(&[1], &[(0, 0)])];
+    let formulas = vec![
+        Formula::True,
+        Formula::Proposition(0),
+        Formula::Proposition(1),
+        Formula::Until(0, 1),
+        Formula::Until(0, 2),
+        Formula::And(3, 4),
+        Formula::Always(5),
+    ];
+    Design { sides: [turning, vec![state(&[], &[(0, 0)])]], formulas, rules: vec![6] }
+}
+
+/// One ticking state beside h0, h1 and h2.
+pub fn two_inputs(formulas: Vec<Formula>, rules: Vec<u8>) -> Design {
+    let host = vec![state(&[], &[(1, 1), (2, 2)]), state(&[0], &[(0, 1)]), state(&[1], &[(0, 2)])];
+    Design { sides: [vec![state(&[], &[(0, 0)])], host], formulas, rules }
+}
+
+/// AX 0, then AX 1.
+pub fn next_zero_next_one() -> Vec<Formula> {
+    vec![Formula::Proposition(0), Formula::Proposition(1), Formula::Next(0), Formula::Next(1)]
+}
+
+/// Two rings of sixteen states, each of which ticks on or reads 1 and stays.
+/// State 15 has label 0 on side 1 and label 1 on side 2. Eight formulas are
+/// kept: 2, 3, 4, 5, 6, 8, 11 and 15.
+pub fn rings(last: Formula) -> Design {
+    let ring = |proposition: u8| {
+        let label = |own: u8| if own == 15 { vec![proposition] } else { vec![] };
+        (0..16).map(|own: u8| state(&label(own), &[(0, (own + 1) % 16), (1, own)])).collect()
+    };
+    let formulas = vec![
+        Formula::True,
+        Formula::Proposition(0),
+        Formula::Until(0, 1),
+        Formula::Always(2),
+        Formula::Proposition(1),
+        Formula::NotProposition(1),
+        Formula::NotProposition(0),
+        Formula::Or(6, 5),
+        Formula::Always(7),
+        Formula::Next(6),
+        Formula::Or(6, 9),
+        Formula::Always(10),
+        Formula::Next(5),
+        Formula::Next(4),
+        Formula::Or(13, 12),
+        last,
+    ];
+    Design { sides: [ring(0), ring(1)], formulas, rules: vec![3, 8, 11, 15] }
+}
+
 /// Bytes that aren't zero and that differ from their neighbours.
 pub fn pattern(length: usize) -> Vec<u8> {
     (0..length).map(|at| (at % 251 + 1) as u8).collect()

@@ -1,4 +1,4 @@
--- The designs, converters and refutations of 01's "Rows". Label words stand in the states and proposition numbers in the formulas, so that a renumbering
+-- 01, "Rows": the designs and converters of the starred rows. Label words stand in the states and proposition numbers in the formulas, so that a renumbering
 -- of labels changes the numbers here and nothing else.
 use mathlib.Core.List.{List, [], _∷_, _++_}
 use Prim.Native.Nat.{ℕ, _+_}
@@ -8,13 +8,12 @@ use Rattle.model.specs.Sides.{Move, State, Side}
 use Rattle.model.specs.Converters.{Edge, Node, Converter}
 use Rattle.model.specs.Formulas.{Form, truth, prop, nprop, conj, disj, ax, au, ag}
 use Rattle.model.specs.Designs.{Design}
-use Rattle.model.proofs.Refuted.{Choice, Refutation, clash, waits}
 
 -- ---- as 01 writes them
-abbrev plus : ℕ → Event
+abbrev pub plus : ℕ → Event
 plus n = pos n
 
-abbrev minus : ℕ → Event
+abbrev pub minus : ℕ → Event
 minus n = dual (pos n)
 
 -- the event to the target
@@ -32,10 +31,6 @@ pair e f c = record { events = e ∷ f ∷ []; next = c }
 -- the record of (state of side 1, state of side 2)
 abbrev at : ℕ → ℕ → List Edge → Node
 at s t es = record { names = s ∷ t ∷ []; edges = es }
-
--- at this pair of states the sides show these events
-abbrev shown-at : ℕ → ℕ → Event → Event → Choice
-shown-at s t e f = record { at = s ∷ t ∷ []; show = e ∷ f ∷ [] }
 
 abbrev design : List Side → List Form → List ℕ → Design
 design Ss fs rs = record { sides = Ss; forms = fs; rules = rs }
@@ -110,15 +105,6 @@ H-mended = design handshake (four (prop idle₂)) four-rules
 abbrev pub H-until : Design
 H-until = design handshake (truth ∷ prop r-out ∷ au 0 1 ∷ []) (2 ∷ [])
 
--- s0 sends 1. If t0 moves with it, s1 waits, against the second rule. If t0 stays, s1 sends 2; by the third rule t0 moves then, and s0 sends 1 again,
--- against the fourth.
-abbrev pub printed-clash : Refutation
-printed-clash = clash 3 (shown-at 0 0 (minus 1) tick ∷ shown-at 1 1 tick tick ∷ shown-at 1 0 (minus 2) tick ∷ shown-at 0 1 (minus 1) tick ∷ [])
-
--- s0 waits for ever
-abbrev pub until-waits : Refutation
-until-waits = waits 2 (shown-at 0 0 tick tick ∷ shown-at 0 1 tick tick ∷ [])
-
 -- ---- one ticking state
 abbrev ticking : Side
 ticking = labelling 0 (on tick 0 ∷ []) ∷ []
@@ -157,7 +143,3 @@ fork-first = at 0 0 (pair tick (minus 1) 1 ∷ []) ∷ at 0 1 (pair tick tick 1 
 -- and the one that enables both
 abbrev pub fork-open : Converter
 fork-open = at 0 0 (pair tick (minus 1) 1 ∷ pair tick (minus 2) 2 ∷ []) ∷ at 0 1 (pair tick tick 1 ∷ []) ∷ at 0 2 (pair tick tick 2 ∷ []) ∷ []
-
--- after one tick h1 lacks one label, h2 the other
-abbrev pub fork-clash : Refutation
-fork-clash = clash 1 (shown-at 0 0 tick tick ∷ [])

@@ -1,0 +1,73 @@
+-- 01, "Rows": the starred rows in one table, and what each says of the definitions. `proofs/Rows` `starred-rows` shows that every row is true.
+use mathlib.Core.Path.{_≡_}
+use mathlib.Core.List.{List, [], _∷_, List·Memᴰ as In}
+use Prim.Native.Nat.{ℕ}
+use Rattle.model.specs.Events.{Event, tick}
+use Rattle.model.specs.Converters.{Converter, Matched}
+use Rattle.model.specs.Designs.{Design, WellFormed, Keeps, Works, NoneWorks}
+use Rattle.model.specs.Positions.{kept-count, positions}
+use Rattle.model.specs.Judged.{Verdict, accepted, unmatched, violated, judged}
+use Rattle.model.specs.Runs.{done, refused, ticked}
+use Rattle.model.specs.RowData.{plus, minus, H, H-printed, H-mended, H-until, F, F-deaf, F-third, turns, turns-converter, fork-either, fork-two, fork-both, fork-first, fork-open}
+
+pub data Row : Type 0 where
+  -- how many formulas of the design are kept
+  kept-are : Design → ℕ → Row
+  -- how many positions it has
+  positions-are : Design → ℕ → Row
+  -- what the judge answers
+  judge-says : Design → Converter → Verdict → Row
+  -- a rule of the design that a matched converter keeps, or fails
+  keeps-rule fails-rule : Design → Converter → ℕ → Row
+  -- a converter that the search may find
+  converter-for : Design → Converter → Row
+  -- the search's 16
+  none-for : Design → Row
+  -- a tick at this record, where the sides show these events: to which record, and what is delivered
+  tick-takes : Converter → ℕ → List Event → ℕ → List Event → Row
+  -- or the number of its refusal
+  tick-refused : Converter → ℕ → List Event → ℕ → Row
+
+-- what a row says of the definitions; of a tick, whatever was delivered before
+abbrev pub Meaning : Row → Type 0
+Meaning (kept-are D n) = WellFormed D × (kept-count D ≡ n)
+Meaning (positions-are D n) = WellFormed D × (positions D ≡ n)
+Meaning (judge-says D C v) = WellFormed D × (judged D C ≡ v)
+Meaning (keeps-rule D C r) = WellFormed D × Matched (D .sides) C × In r (D .rules) × Keeps D C r
+Meaning (fails-rule D C r) = WellFormed D × Matched (D .sides) C × In r (D .rules) × (Keeps D C r → ⊥)
+Meaning (converter-for D C) = WellFormed D × Works D C
+Meaning (none-for D) = WellFormed D × NoneWorks D
+Meaning (tick-takes C c xs d es) =
+    (before : List Event)
+    → ticked C (record { at = c; delivered = before }) xs
+    ≡ record { answer = done; runner = record { at = d; delivered = es } }
+Meaning (tick-refused C c xs k) =
+    (before : List Event)
+    → ticked C (record { at = c; delivered = before }) xs
+    ≡ record { answer = refused k; runner = record { at = c; delivered = before } }
+
+-- the starred rows, in 01's order
+abbrev pub rows : List Row
+rows =
+    -- H, no rules: 4 positions, a converter
+    positions-are H 4 ∷ converter-for H F
+    -- the paper's four rules as printed: 8 kept, 1,024 positions, 16
+    ∷ kept-are H-printed 8 ∷ positions-are H-printed 1024 ∷ none-for H-printed
+    -- F against them: 15; the first three hold, the fourth fails
+    ∷ judge-says H-printed F violated ∷ keeps-rule H-printed F 8 ∷ keeps-rule H-printed F 17 ∷ keeps-rule H-printed F 26
+    ∷ fails-rule H-printed F 35
+    -- with the fourth ending AX(¬1 ∨ 2): F passes, a converter is found
+    ∷ judge-says H-mended F accepted ∷ converter-for H-mended F
+    -- H, A(true U 1): 8 positions, 16
+    ∷ positions-are H-until 8 ∷ none-for H-until
+    -- F without (0,0) in record 0: 14; with a third transition of record 0: 14
+    ∷ judge-says H-mended F-deaf unmatched ∷ judge-says H-mended F-third unmatched
+    -- F at record 1, shown -2 and 0: to 2, delivered -2 and 1; at record 0, shown -2 and 0: 17
+    ∷ tick-takes F 1 (minus 2 ∷ tick ∷ []) 2 (minus 2 ∷ plus 1 ∷ []) ∷ tick-refused F 0 (minus 2 ∷ tick ∷ []) 17
+    -- two states ticking in turn, AG(A(true U 0) ∧ A(true U 1)): 32 positions, a converter
+    ∷ positions-are turns 32 ∷ converter-for turns turns-converter
+    -- (AX 0) or (AX 1): 24 positions, a converter; one that enables both inputs: 15
+    ∷ positions-are fork-either 24 ∷ converter-for fork-either fork-first ∷ judge-says fork-either fork-open violated
+    -- AX 0 and AX 1 both, as two rules and as one: 16
+    ∷ none-for fork-two ∷ none-for fork-both
+    ∷ []

@@ -1,0 +1,159 @@
+//! A design in flat arrays.
+
+use crate::{blank, check, demand, in_range, word};
+
+/// An input state: no sent event.
+pub const INPUT: u8 = 0;
+/// An output-only state: a single transition, sent.
+pub const OUTPUT: u8 = 1;
+/// A delayed state: one sent, one tick back to itself.
+pub const DELAYED: u8 = 2;
+
+/// No target.
+pub const NOWHERE: u8 = 255;
+
+/// A state of a side.
+#[derive(Clone, Copy)]
+pub struct State {
+    /// The label word.
+    pub label: u16,
+    /// One of the three kinds.
+    pub kind: u8,
+    /// How many transitions are used.
+    pub count: usize,
+    /// Their events.
+    pub events: [i8; 8],
+    /// Their targets.
+    pub targets: [u8; 8],
+}
+
+const EMPTY: State = State { label: 0, kind: INPUT, count: 0, events: [0; 8], targets: [0; 8] };
+
+/// A design.
+pub struct Design {
+    /// How many states each side has.
+    pub states: [usize; 2],
+    /// The states of each side.
+    pub sides: [[State; 16]; 2],
+    /// Kind, first and second operand of each formula.
+    pub formulas: Vec<[u8; 3]>,
+    /// The rules.
+    pub rules: Vec<u8>,
+}
+
+impl Design {
+    /// Reads a design, or declines with 1 to 8.
+    pub fn read(bytes: &[u8]) -> Result<Design, u8> {
+        demand(bytes.len() == 2_048, 1)?;
+        let block = |number: usize| &bytes[512 * number..512 * (number + 1)];
+        let blocks = [block(0), block(1), block(2), block(3)];
+        demand(blocks.iter().all(|block| check(block) == word(block, 510)), 2)?;
+        let headed = |(kind, block): (u8, &&[u8])| block[0] == kind && word(block, 2) == 0;
+        demand((1..).zip(&blocks).all(headed), 3)?;
+        let counts = blocks.map(|block| usize::from(block[1]));
+        let counted = |count: usize| (1..=16).contains(&count);
+        demand(counted(counts[0]) && counted(counts[1]) && counts[2] <= 64 && counts[3] <= 16, 4)?;
+        let mut sides = [[EMPTY; 16]; 2];
+        for side in 0..2 {
+            for state in 0..counts[side] {
+                let record = &blocks[side][4 + 20 * state..24 + 20 * state];
+                sides[side][state] = read_state(record, counts[side]).ok_or(5)?;
+            }
+        }
+        for side in 0..2 {
+            for (own, state) in sides[side][..counts[side]].iter_mut().enumerate() {
+                state.kind = kind(state, own).ok_or(6)?;
+            }
+        }
+        let formulas: Vec<[u8; 3]> = blocks[2][4..4 + 4 * counts[2]]
+            .chunks_exact(4)
+            .map(|record| [record[0], record[1], record[2]])
+            .collect();
+        let right = |(number, formula): (usize, &[u8; 3])| operands_right(number, formula);
+        demand(formulas.iter().enumerate().all(right), 7)?;
+        let rules = blocks[3][4..4 + counts[3]].to_vec();
+        demand(rules.iter().all(|&rule| usize::from(rule) < formulas.len()), 7)?;
+        let used = [20 * counts[0], 20 * counts[1], 4 * counts[2], counts[3]];
+        let tails = (0..4).all(|at| blank(&blocks[at][4 + used[at]..510]));
+        let unused = |state: &[u8]| state[3] == 0 && blank(&state[4 + 2 * usize::from(state[2])..]);
+        let states =
+            (0..2).all(|side| blocks[side][4..4 + used[side]].chunks_exact(20).all(unused));
+        let absent = |record: &[u8]| {
+            let operands = match record[0] {
+                1 | 2 => 0,
+                3 | 4 | 7 | 9 => 1,
+                _ => 2,
+            };
+            blank(&record[1 + operands..])
+        };
+        let formula_records = blocks[2][4..4 + used[2]].chunks_exact(4).all(absent);
+        demand(tails && states && formula_records, 8)?;
+        Ok(Design { states: [counts[0], counts[1]], sides, formulas, rules })
+    }
+
+    /// Which formulas are kept, as bits.
+    pub fn kept(&self) -> u64 {
+        let mut kept = 0;
+        for (number, formula) in self.formulas.iter().enumerate() {
+            match formula[0] {
+                7 => kept |= 1 << formula[1],
+                8 | 9 => kept |= 1 << number,
+                _ => {}
+            }
+        }
+        self.rules.iter().fold(kept, |kept, rule| kept | 1 << rule)
+    }
+
+    /// How many formulas are of kind 8.
+    pub fn untils(&self) -> usize {
+        self.formulas.iter().filter(|formula| formula[0] == 8).count()
+    }
+}
+
+/// A state whose transitions are right, of a side with so many states.
+fn read_state(record: &[u8], states: usize) -> Option<State> {
+    let count = usize::from(record[2]);
+    if !(1..=8).contains(&count) {
+        return None;
+    }
+    let mut state = State { label: word(record, 0), count, ..EMPTY };
+    let mut seen = 0_u128;
+    for place in 0..count {
+        let (event, target) = (record[4 + 2 * place], record[5 + 2 * place]);
+        let bit = 1 << (event & 127);
+        if !in_range(event) || usize::from(target) >= states || seen & bit != 0 {
+            return None;
+        }
+        seen |= bit;
+        state.events[place] = event as i8;
+        state.targets[place] = target;
+    }
+    Some(state)
+}
+
+/// The kind of a state.
+fn kind(state: &State, own: usize) -> Option<u8> {
+    let events = &state.events[..state.count];
+    match (events.iter().filter(|&&event| event < 0).count(), state.count) {
+        (0, _) => Some(INPUT),
+        (1, 1) => Some(OUTPUT),
+        (1, 2) => {
+            let tick = usize::from(events[0] < 0);
+            let waits = events[tick] == 0 && usize::from(state.targets[tick]) == own;
+            waits.then_some(DELAYED)
+        }
+        _ => None,
+    }
+}
+
+/// Whether a formula has a known kind and operands that its kind may have.
+fn operands_right(number: usize, formula: &[u8; 3]) -> bool {
+    let lower = |at: usize| usize::from(formula[at]) < number;
+    match formula[0] {
+        1 | 2 => true,
+        3 | 4 => formula[1] <= 15,
+        5 | 6 | 8 => lower(1) && lower(2),
+        7 | 9 => lower(1),
+        _ => false,
+    }
+}

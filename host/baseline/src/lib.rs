@@ -1,0 +1,55 @@
+//! The calls of the library in plain Rust, written for speed and proved by
+//! nobody: what the benchmark measures the proved library against.
+//!
+//! - [`design`]: a design in flat arrays, read with every refusal.
+//! - [`converter`]: converter records, and converter files as blocks.
+//! - [`judge`](mod@judge): truth as one bit set over the records for each formula.
+//! - [`search`](mod@search): the game over bit sets of owed formulas.
+//! - [`tick`](mod@tick): one tick.
+
+#![forbid(unsafe_code)]
+
+pub mod converter;
+pub mod design;
+pub mod judge;
+pub mod search;
+pub mod tick;
+
+pub use converter::{read, write};
+pub use judge::judge;
+pub use search::search;
+pub use tick::{tick, Runner};
+
+/// Declines with `number` unless `holds`.
+#[inline]
+fn demand(holds: bool, number: u8) -> Result<(), u8> {
+    if holds {
+        Ok(())
+    } else {
+        Err(number)
+    }
+}
+
+/// The 16-bit number at `at`, low byte first.
+#[inline]
+fn word(bytes: &[u8], at: usize) -> u16 {
+    u16::from_le_bytes([bytes[at], bytes[at + 1]])
+}
+
+/// The check of a block: bytes 0 to 509 added up. 510 bytes of 255 don't wrap.
+#[inline]
+fn check(block: &[u8]) -> u16 {
+    block[..510].iter().map(|&byte| u16::from(byte)).sum()
+}
+
+/// Whether all bytes are zero.
+#[inline]
+fn blank(bytes: &[u8]) -> bool {
+    bytes.iter().fold(0, |all, byte| all | byte) == 0
+}
+
+/// Whether an event byte is from -63 to 63.
+#[inline]
+fn in_range(event: u8) -> bool {
+    (event as i8).wrapping_add(63) as u8 <= 126
+}

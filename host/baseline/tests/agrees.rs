@@ -1,0 +1,211 @@
+//! The baseline against the second checker: the same answers and the same
+//! bytes; what the search finds is judged well by the other.
+
+use checker::bytes::{
+    converter_bytes, positions, read_blocks, read_design, write_blocks, Design, Formula, State,
+    Transition,
+};
+use checker::generate::{
+    any_converter, any_design, block_file, damage, damaged_converter, design, loose_converter,
+    ruled_design, script, Random, Shape,
+};
+
+/// Bytes that aren't zero.
+fn pattern(length: usize) -> Vec<u8> {
+    (0..length).map(|at| (at % 251 + 1) as u8).collect()
+}
+
+/// A length that is mostly enough, at times one short, at times more.
+fn about(random: &mut Random, enough: usize) -> usize {
+    match random.below(12) {
+        0 => enough.saturating_sub(1),
+        1 => enough + random.below(100),
+        _ => enough,
+    }
+}
+
+/// Searches by both. The checker's answer, 0 for a converter.
+fn search_agrees(bytes: &[u8], table_length: usize, work_length: usize) -> u8 {
+    let (mut table, mut work) = (pattern(table_length), pattern(work_length));
+    let (mut other_table, mut other_work) = (pattern(table_length), pattern(work_length));
+    let answer = baseline::search(bytes, &mut table, &mut work);
+    let other = checker::search(bytes, &mut other_table, &mut other_work);
+    assert_eq!(answer.is_ok(), other.is_ok(), "{answer:?} {other:?} {:?}", read_design(bytes));
+    assert!(work == other_work);
+    match answer {
+        Ok(records) => {
+            let size = positions(&read_design(bytes).unwrap()) as usize;
+            assert!((1..=size).contains(&records));
+            let found = &table[..36 * records];
+            let judged = checker::judge(bytes, found, &mut vec![0; 16 * records]);
+            assert_eq!(judged, Ok(()), "{:?}", read_design(bytes));
+            assert!(table[36 * records..] == pattern(table_length)[36 * records..]);
+        }
+        Err(_) => {
+            assert_eq!(answer, other);
+            assert!(table == pattern(table_length));
+        }
+    }
+    other.err().unwrap_or(0)
+}
+
+#[test]
+fn searches() {
+    let mut random = Random::new(201);
+    let mut answers = [0; 18];
+    for round in 0..16_000 {
+        let made = match round % 4 {
+            0 => any_design(&mut random),
+            1 => ruled_design(&mut random, &Shape::TINY),
+            2 => ruled_design(&mut random, &Shape::SMALL),
+            _ => ruled_design(&mut random, &Shape { formulas: 20, rules: 5, ..Shape::SMALL }),
+        };
+        let mut bytes = made.to_bytes();
+        if round % 4 == 0 {
+            damage(&mut random, &mut bytes);
+        }
+        let size = read_design(&bytes).map_or(4, |made| positions(&made).min(1 << 13) as usize);
+        let table_length = about(&mut random, 36 * size);
+        let work_length = about(&mut random, 16 * size);
+        answers[usize::from(search_agrees(&bytes, table_length, work_length))] += 1;
+    }
+    for number in [0, 1, 2, 3, 4, 5, 6, 7, 8, 9, 12, 13, 16] {
+        assert!(answers[number] > 10, "{number}: {answers:?}");
+    }
+    assert!(answers[0] > 2_000 && answers[16] > 2_000, "{answers:?}");
+}
+
+#[test]
+fn larger_searches() {
+    let mut random = Random::new(202);
+    let mut answers = [0; 18];
+    let mut round = 0;
+    while round < 150 {
+        let shape = Shape { states: 16, transitions: 4, propositions: 6, formulas: 24, rules: 5 };
+        let made = ruled_design(&mut random, &shape);
+        let size = positions(&made);
+        if !(4_096..=65_536).contains(&size) {
+            continue;
+        }
+        round += 1;
+        let size = size as usize;
+        answers[usize::from(search_agrees(&made.to_bytes(), 36 * size, 16 * size))] += 1;
+    }
+    assert!(answers[0] > 10 && answers[16] > 10, "{answers:?}");
+}
+
+/// Two rings, one of which must be led round while the other stays behind.
+#[test]
+fn rings() {
+    let ring = |states: u8, bit: u16| -> Vec<State> {
+        let place = |event, target| Transition { event, target };
+        let state = |own| State {
+            label: if own + 1 == states { bit } else { 0 },
+            transitions: vec![place(0, (own + 1) % states), place(1, own)],
+        };
+        (0..states).map(state).collect()
+    };
+    let formulas = vec![
+        Formula::True,
+        Formula::Proposition(0),
+        Formula::Proposition(1),
+        Formula::And(1, 2),
+        Formula::Until(0, 3),
+        Formula::Always(4),
+        Formula::Until(0, 1),
+        Formula::Always(6),
+    ];
+    for (first, second) in [(16, 15), (7, 5), (16, 16), (1, 16)] {
+        let sides = [ring(first, 1), ring(second, 2)];
+        let made = Design { sides, formulas: formulas.clone(), rules: vec![5, 7] };
+        let size = positions(&made) as usize;
+        assert_eq!(search_agrees(&made.to_bytes(), 36 * size, 16 * size), 0);
+    }
+}
+
+#[test]
+fn judgements() {
+    let mut random = Random::new(203);
+    let mut answers = [0; 18];
+    for round in 0..40_000 {
+        let made = if round % 8 == 0 {
+            design(&mut random, &Shape::FULL)
+        } else {
+            any_design(&mut random)
+        };
+        let converter = any_converter(&mut random, &made);
+        let mut bytes = made.to_bytes();
+        if round % 16 == 0 {
+            damage(&mut random, &mut bytes);
+        }
+        let length = about(&mut random, 16 * (converter.len() / 36));
+        let (mut work, mut other_work) = (pattern(length), pattern(length));
+        let answer = baseline::judge(&bytes, &converter, &mut work);
+        let other = checker::judge(&bytes, &converter, &mut other_work);
+        assert_eq!(answer, other);
+        assert!(work == other_work);
+        answers[usize::from(answer.err().unwrap_or(0))] += 1;
+    }
+    for number in [0, 1, 2, 5, 7, 8, 10, 11, 13, 14, 15] {
+        assert!(answers[number] > 20, "{number}: {answers:?}");
+    }
+}
+
+#[test]
+fn files() {
+    let mut random = Random::new(204);
+    let mut answers = [0; 18];
+    for round in 0..20_000 {
+        let mut file = block_file(&mut random, 40);
+        if round % 2 == 0 {
+            damage(&mut random, &mut file);
+        }
+        let length = about(&mut random, 36 * 14 * file.len().div_ceil(512));
+        let (mut memory, mut other_memory) = (pattern(length), pattern(length));
+        let answer = baseline::read(&file, &mut memory);
+        assert_eq!(answer, read_blocks(&file, &mut other_memory));
+        assert!(memory == other_memory);
+        answers[usize::from(answer.err().unwrap_or(0))] += 1;
+
+        let records = random.from_to(1, 40);
+        let made = loose_converter(&mut random, records);
+        let converter = match round % 2 {
+            0 => damaged_converter(&mut random, &made),
+            _ => converter_bytes(&made),
+        };
+        let length = about(&mut random, 512 * records.div_ceil(14));
+        let (mut blocks, mut other_blocks) = (pattern(length), pattern(length));
+        assert_eq!(
+            baseline::write(&converter, &mut blocks),
+            write_blocks(&converter, &mut other_blocks)
+        );
+        assert!(blocks == other_blocks);
+    }
+    for number in [0, 1, 2, 3, 4, 8, 11] {
+        assert!(answers[number] > 20, "{number}: {answers:?}");
+    }
+}
+
+#[test]
+fn ticks() {
+    let mut random = Random::new(205);
+    let mut answers = [0; 18];
+    for _ in 0..4_000 {
+        let made = any_design(&mut random);
+        let converter = any_converter(&mut random, &made);
+        let mut runner = baseline::Runner::default();
+        let mut other = checker::tick::Runner { record: 0, delivered: [0, 0] };
+        for shown in script(&mut random, &made, &converter, 20) {
+            if random.once_in(40) {
+                runner.record = random.below(1 + converter.len() / 30) as u16;
+                other.record = usize::from(runner.record);
+            }
+            let answer = baseline::tick(&converter, &mut runner, shown);
+            assert_eq!(answer, checker::tick(&converter, &mut other, shown));
+            assert_eq!(usize::from(runner.record), other.record);
+            assert_eq!(runner.delivered, other.delivered);
+            answers[usize::from(answer.err().unwrap_or(0))] += 1;
+        }
+    }
+    assert!([0, 10, 11, 17].iter().all(|&number| answers[number] > 100), "{answers:?}");
+}

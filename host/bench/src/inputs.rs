@@ -1,0 +1,257 @@
+//! What is measured: designs and converters of growing size.
+
+use checker::bytes::{
+    converter_bytes, positions, Design, Formula, Link, Record, State, Transition,
+};
+use checker::generate::{formulas, ruled_design, Random, Shape};
+
+/// A design and a converter matched to it, as bytes.
+pub struct Judged {
+    /// The design.
+    pub design: Vec<u8>,
+    /// The converter.
+    pub converter: Vec<u8>,
+}
+
+/// Designs to search, by what they are like, in growing sizes.
+pub fn searched() -> Vec<(&'static str, Vec<Vec<Design>>)> {
+    let one = |design: Design| vec![design];
+    let kept = |counts: [usize; 4], make: &dyn Fn(usize) -> Design| -> Vec<Vec<Design>> {
+        counts.iter().map(|&kept| one(make(kept))).collect()
+    };
+    vec![
+        ("16 by 16 states, an until", kept([2, 4, 6, 8], &|kept| grid(16, kept, true))),
+        ("16 by 16 states, no until", kept([2, 4, 6, 8], &|kept| grid(16, kept, false))),
+        ("4 by 4 states, an until", kept([6, 8, 10, 12], &|kept| grid(4, kept, true))),
+        ("1 by 1 state, rules that are true", kept([10, 12, 14, 16], &trivial)),
+        ("rings of 16 and 15, an until under always", kept([2, 4, 6, 8], &rings)),
+        (
+            "levels, four or five untils",
+            vec![
+                one(levels(4, 2, 4)),
+                one(levels(8, 4, 4)),
+                one(levels(16, 8, 4)),
+                one(levels(16, 12, 5)),
+            ],
+        ),
+        ("twenty random designs", [1_024, 4_096, 16_384, 65_536].map(random).to_vec()),
+    ]
+}
+
+/// A state from its label word and its transitions.
+fn state(label: u16, transitions: &[(i8, usize)]) -> State {
+    let transition = |&(event, target): &(i8, usize)| Transition { event, target: target as u8 };
+    State { label, transitions: transitions.iter().map(transition).collect() }
+}
+
+/// A ring that ticks on, reads 1 and stays, or reads 2 and steps back. The
+/// last state has label `last`, every odd one label `odd`.
+fn ring(states: usize, last: u16, odd: u16) -> Vec<State> {
+    let label = |own: usize| {
+        let at_end = if own + 1 == states { 1 << last } else { 0 };
+        let oddly = if own % 2 == 1 { 1 << odd } else { 0 };
+        at_end | oddly
+    };
+    let turns = |own: usize| [(0, (own + 1) % states), (1, own), (2, (own + states - 1) % states)];
+    (0..states).map(|own| state(label(own), &turns(own))).collect()
+}
+
+/// Two rings, and rules that keep so many formulas: at some time both are at
+/// their ends, if there is an until; and "in two ticks' time" for the others.
+fn grid(states: usize, kept: usize, until: bool) -> Design {
+    let sides = [ring(states, 0, 1), ring(states, 2, 3)];
+    let mut formulas =
+        vec![Formula::True, Formula::Proposition(0), Formula::Proposition(2), Formula::And(1, 2)];
+    let mut rules = Vec::new();
+    let mut count = 0;
+    if until {
+        formulas.extend([Formula::Until(0, 3), Formula::Always(4)]);
+        rules.push(5);
+        count = 2;
+    }
+    more_kept(&mut formulas, &mut rules, kept - count);
+    let made = Design { sides, formulas, rules };
+    assert_eq!(made.kept().len(), kept);
+    made
+}
+
+/// Rules "now or at the next tick", each of which keeps two formulas.
+fn more_kept(formulas: &mut Vec<Formula>, rules: &mut Vec<u8>, kept: usize) {
+    assert!(kept.is_multiple_of(2), "each such rule keeps itself and what is next");
+    for number in 0..kept / 2 {
+        let at = formulas.len();
+        let literal = |holds: bool, proposition: u8| match holds {
+            true => Formula::Proposition(proposition),
+            false => Formula::NotProposition(proposition),
+        };
+        formulas.extend([
+            literal(number % 2 == 0, 1),
+            literal(number / 2 % 2 == 0, 3),
+            Formula::Or(at, at + 1),
+            Formula::Next(at + 2),
+            Formula::Or(at, at + 3),
+        ]);
+        rules.push(at as u8 + 4);
+    }
+}
+
+/// One ticking state on each side, and so many rules that are true.
+fn trivial(rules: usize) -> Design {
+    let side = || vec![state(0, &[(0, 0)])];
+    let formulas = vec![Formula::True; rules];
+    Design { sides: [side(), side()], formulas, rules: (0..rules as u8).collect() }
+}
+
+/// Rings of 16 and 15 states that meet at their ends again and again.
+fn rings(kept: usize) -> Design {
+    let ring = |states: usize, last: u16, odd: u16| -> Vec<State> {
+        let mut states = ring(states, last, odd);
+        states.iter_mut().for_each(|state| state.transitions.truncate(1));
+        states
+    };
+    let sides = [ring(16, 0, 1), ring(15, 2, 3)];
+    let mut formulas = vec![
+        Formula::True,
+        Formula::Proposition(0),
+        Formula::Proposition(2),
+        Formula::And(1, 2),
+        Formula::Until(0, 3),
+        Formula::Always(4),
+    ];
+    let mut rules = vec![5];
+    more_kept(&mut formulas, &mut rules, kept - 2);
+    Design { sides, formulas, rules }
+}
+
+/// A side that climbs through its levels or falls back to the start, beside a
+/// ring; several levels must be reached again and again.
+fn levels(states: usize, ring_states: usize, untils: usize) -> Design {
+    let level = |own: usize| {
+        let place = (own * untils).checked_rem(states).filter(|&at| at < untils);
+        let label = place.map_or(0, |_| 1 << (own * untils / states));
+        state(label, &[(0, (own + 1) % states), (1, 0)])
+    };
+    let side = (0..states).map(level).collect();
+    let mut formulas = vec![Formula::True];
+    let mut all = 0;
+    for number in 0..untils {
+        let at = formulas.len();
+        formulas.extend([Formula::Proposition(number as u8), Formula::Until(0, at)]);
+        if number > 0 {
+            formulas.push(Formula::And(all, at + 1));
+        }
+        all = formulas.len() - 1;
+    }
+    formulas.push(Formula::Always(all));
+    let rules = vec![formulas.len() as u8 - 1];
+    Design { sides: [side, ring(ring_states, 14, 15)], formulas, rules }
+}
+
+/// Twenty random designs with at most so many positions and more than half.
+fn random(size: u128) -> Vec<Design> {
+    let mut random = Random::new(size as u64);
+    let shape = Shape { states: 16, transitions: 4, propositions: 6, formulas: 24, rules: 5 };
+    let mut made = Vec::new();
+    while made.len() < 20 {
+        let design = ruled_design(&mut random, &shape);
+        if (size / 2 + 1..=size).contains(&positions(&design)) {
+            made.push(design);
+        }
+    }
+    made
+}
+
+const SIZES: [usize; 4] = [1_024, 4_096, 16_384, 65_536];
+
+/// Designs with 64 formulas and converters to judge, by what they are like, in
+/// growing sizes.
+pub fn judged() -> Vec<(&'static str, Vec<Judged>)> {
+    let random = SIZES.map(|records| mesh(records, many_formulas()));
+    let ahead = SIZES.map(|records| chain(records, false, until_formulas()));
+    let mixed = SIZES.map(|records| chain(records, true, until_formulas()));
+    vec![
+        ("64 random formulas, random links", random.into()),
+        ("64 formulas, eight untils down a chain in order", ahead.into()),
+        ("64 formulas, eight untils down a shuffled chain", mixed.into()),
+    ]
+}
+
+/// 64 formulas of every kind, of which the last 16 are rules.
+fn many_formulas() -> (Vec<Formula>, Vec<u8>) {
+    let shape = Shape { propositions: 4, ..Shape::FULL };
+    (formulas(&mut Random::new(64), &shape, 64), (48..64).collect())
+}
+
+/// 64 formulas with eight untils that wait for proposition 0.
+fn until_formulas() -> (Vec<Formula>, Vec<u8>) {
+    let mut formulas = vec![Formula::True, Formula::Proposition(0)];
+    for _ in 0..8 {
+        formulas.push(Formula::Until(0, 1));
+    }
+    while formulas.len() < 64 {
+        let at = formulas.len();
+        formulas.push(if at % 2 == 0 {
+            Formula::And(at - 1, at - 8)
+        } else {
+            Formula::Or(at - 2, at - 3)
+        });
+    }
+    (formulas, vec![2, 63])
+}
+
+/// Converters for the files and the tick.
+pub fn converters() -> Vec<Vec<u8>> {
+    SIZES.map(|records| mesh(records, (vec![], vec![])).converter).into()
+}
+
+/// A converter over two rings of four states, with two or three random links in each record.
+fn mesh(records: usize, (formulas, rules): (Vec<Formula>, Vec<u8>)) -> Judged {
+    let sides = [ring(4, 0, 1), ring(4, 2, 3)];
+    let design = Design { sides, formulas, rules };
+    let mut random = Random::new(records as u64);
+    // Record r names the pair of the number r modulo 16.
+    let pair = |number: usize| [number % 16 / 4, number % 4];
+    let record = |number: usize| {
+        let here = pair(number);
+        let mut links: Vec<Link> = Vec::new();
+        for _ in 0..random.from_to(2, 3) {
+            let places = [0, 1].map(|side: usize| {
+                let transitions = &design.sides[side][here[side]].transitions;
+                transitions[random.below(transitions.len())]
+            });
+            let events = places.map(|place| -place.event);
+            let to = usize::from(places[0].target) * 4 + usize::from(places[1].target);
+            let next = (random.below(records / 16) * 16 + to) as u16;
+            if links.iter().all(|link| link.events != events) {
+                links.push(Link { events, next });
+            }
+        }
+        Record { pair: here.map(|state| state as u8), links }
+    };
+    let converter: Vec<Record> = (0..records).map(record).collect();
+    Judged { design: design.to_bytes(), converter: converter_bytes(&converter) }
+}
+
+/// A converter that is one long chain through all its records and stays at
+/// its end, where proposition 0 holds; in order or shuffled.
+fn chain(records: usize, shuffled: bool, (formulas, rules): (Vec<Formula>, Vec<u8>)) -> Judged {
+    // Ticks stay in state 0, reading 1 leads to state 1 with proposition 0.
+    let walking = vec![state(0, &[(0, 0), (1, 1)]), state(1, &[(0, 1)])];
+    let design = Design { sides: [walking, vec![state(0, &[(0, 0)])]], formulas, rules };
+    let mut order: Vec<usize> = (0..records).collect();
+    if shuffled {
+        Random::new(records as u64).shuffle(&mut order[1..]);
+    }
+    let mut converter = vec![Record { pair: [0, 0], links: vec![] }; records];
+    for (at, &own) in order.iter().enumerate() {
+        let end = at + 1 == records;
+        let (event, next) = match order.get(at + 1) {
+            None => (0, own),
+            Some(&next) if at + 2 == records => (-1, next),
+            Some(&next) => (0, next),
+        };
+        converter[own].pair[0] = u8::from(end);
+        converter[own].links.push(Link { events: [event, 0], next: next as u16 });
+    }
+    Judged { design: design.to_bytes(), converter: converter_bytes(&converter) }
+}

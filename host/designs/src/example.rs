@@ -1,0 +1,134 @@
+//! Tables with named states, signals and propositions.
+
+use checker::bytes::{self, Design};
+
+use crate::rule::{Records, Rule};
+
+/// An event of a side.
+#[derive(Clone, Copy, Debug, PartialEq, Eq)]
+pub enum Event {
+    /// The side does nothing but to let the clock tick.
+    Tick,
+    /// The side reads a signal.
+    Read(&'static str),
+    /// The side sends a signal.
+    Send(&'static str),
+}
+
+/// A state: its name, the propositions that hold in it, its transitions.
+#[derive(Clone, Debug)]
+pub struct State {
+    /// Its name.
+    pub name: String,
+    /// The propositions that hold in it.
+    pub holds: Vec<&'static str>,
+    /// Its events, each with the name of the state to which it leads.
+    pub transitions: Vec<(Event, String)>,
+}
+
+/// A state from names.
+pub fn state(name: &str, holds: &[&'static str], transitions: &[(Event, &str)]) -> State {
+    State {
+        name: name.to_string(),
+        holds: holds.to_vec(),
+        transitions: transitions.iter().map(|&(event, to)| (event, to.to_string())).collect(),
+    }
+}
+
+/// A side: what it is, and its states, of which the first is the start.
+#[derive(Clone, Debug)]
+pub struct Side {
+    /// What it is.
+    pub title: &'static str,
+    /// Its states.
+    pub states: Vec<State>,
+}
+
+/// Whether some converter keeps the rules.
+#[derive(Clone, Copy, Debug, PartialEq, Eq)]
+pub enum Verdict {
+    /// One does.
+    Converter,
+    /// None does, of any size.
+    None,
+}
+
+/// An example.
+#[derive(Clone, Debug)]
+pub struct Example {
+    /// The name of its files.
+    pub name: &'static str,
+    /// The title of its page.
+    pub title: &'static str,
+    /// What the pair is about.
+    pub about: &'static str,
+    /// The kernel, then the host.
+    pub sides: [Side; 2],
+    /// The signals, numbered from 1.
+    pub signals: Vec<&'static str>,
+    /// The propositions, numbered from 0.
+    pub propositions: Vec<&'static str>,
+    /// The rules, each in words and as a formula.
+    pub rules: Vec<(&'static str, Rule)>,
+    /// The verdict that was thought out beforehand.
+    pub verdict: Verdict,
+    /// Why it is so.
+    pub why: &'static str,
+}
+
+impl Example {
+    /// The design, with every name replaced by its number.
+    pub fn design(&self) -> Design {
+        let mut records = Records::new(&self.propositions);
+        let rules = self.rules.iter().map(|(_, rule)| records.put(rule) as u8).collect();
+        let sides = [0, 1].map(|side| self.side(side));
+        Design { sides, formulas: records.formulas, rules }
+    }
+
+    fn side(&self, side: usize) -> Vec<bytes::State> {
+        let states = &self.sides[side].states;
+        let number = |name: &str| {
+            let at = states.iter().position(|state| state.name == name);
+            at.unwrap_or_else(|| panic!("no state {name}")) as u8
+        };
+        let bit = |name: &&str| {
+            let at = self.propositions.iter().position(|known| known == name);
+            1 << at.unwrap_or_else(|| panic!("no proposition {name}"))
+        };
+        let numbered = |state: &State| bytes::State {
+            label: state.holds.iter().map(bit).sum(),
+            transitions: state
+                .transitions
+                .iter()
+                .map(|(event, to)| bytes::Transition {
+                    event: self.event(*event),
+                    target: number(to),
+                })
+                .collect(),
+        };
+        states.iter().map(numbered).collect()
+    }
+
+    /// The number of an event.
+    fn event(&self, event: Event) -> i8 {
+        let signal = |name: &str| {
+            let at = self.signals.iter().position(|known| *known == name);
+            at.unwrap_or_else(|| panic!("no signal {name}")) as i8 + 1
+        };
+        match event {
+            Event::Tick => 0,
+            Event::Read(name) => signal(name),
+            Event::Send(name) => -signal(name),
+        }
+    }
+
+    /// The event that has a number.
+    pub fn named_event(&self, number: i8) -> Event {
+        let name = || self.signals[usize::from(number.unsigned_abs()) - 1];
+        match number {
+            0 => Event::Tick,
+            1.. => Event::Read(name()),
+            _ => Event::Send(name()),
+        }
+    }
+}

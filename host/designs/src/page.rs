@@ -1,0 +1,156 @@
+//! The page of an example: tables, rules, verdict, and the converter found.
+
+use std::fmt::Write;
+
+use checker::bytes::{
+    positions, read_blocks, read_converter_memory, Record, BLOCK_BYTES, BLOCK_RECORDS, RECORD_BYTES,
+};
+
+use crate::example::{Event, Example, Side, Verdict};
+
+/// What the convert program writes where no converter exists.
+pub const NONE: &[u8] = b"refused 16\n";
+
+/// The records of what the convert program writes: nothing where none exists.
+pub fn records(converted: &[u8]) -> Result<Option<Vec<Record>>, u8> {
+    if converted == NONE {
+        return Ok(None);
+    }
+    let mut memory = vec![0; RECORD_BYTES * BLOCK_RECORDS * (converted.len() / BLOCK_BYTES)];
+    let count = read_blocks(converted, &mut memory)?;
+    read_converter_memory(&memory[..RECORD_BYTES * count]).map(Some)
+}
+
+/// The page, with what the convert program wrote for the design.
+pub fn page(example: &Example, converted: Option<&[Record]>) -> String {
+    let mut out = String::new();
+    write_page(&mut out, example, converted).expect("a string takes all that is written");
+    out
+}
+
+fn write_page(
+    out: &mut String,
+    example: &Example,
+    converted: Option<&[Record]>,
+) -> Result<(), std::fmt::Error> {
+    writeln!(out, "# {}\n\n{}\n", example.title, example.about)?;
+    for (side, word) in example.sides.iter().zip(["Kernel", "Host"]) {
+        write_side(out, side, word)?;
+    }
+    writeln!(out, "Signals: {}.  ", numbered(&example.signals, 1, ""))?;
+    writeln!(out, "Propositions: {}.\n", numbered(&example.propositions, 0, "p"))?;
+    writeln!(out, "## Rules\n")?;
+    for (number, (words, rule)) in (1..).zip(&example.rules) {
+        writeln!(out, "{number}. {words}\n\n       {rule}\n")?;
+    }
+    let design = example.design();
+    writeln!(out, "## Verdict\n")?;
+    writeln!(
+        out,
+        "{} and {} states, {} formulas, {} kept, {} of kind 8: {} positions. {}\n\n{}",
+        design.sides[0].len(),
+        design.sides[1].len(),
+        design.formulas.len(),
+        design.kept().len(),
+        design.untils().len(),
+        grouped(positions(&design)),
+        verdict(converted),
+        example.why,
+    )?;
+    if let Some(records) = converted {
+        write_converter(out, example, records)?;
+    }
+    Ok(())
+}
+
+fn verdict(converted: Option<&[Record]>) -> String {
+    match converted.map(<[Record]>::len) {
+        None => "No converter of any size keeps the rules (`refused 16`).".to_string(),
+        Some(1) => "A converter of one record keeps the rules.".to_string(),
+        Some(count) => format!("A converter of {count} records keeps the rules."),
+    }
+}
+
+fn write_side(out: &mut String, side: &Side, word: &str) -> std::fmt::Result {
+    writeln!(out, "## {word}: {}\n", side.title)?;
+    writeln!(out, "| state | holds | transitions |\n|---|---|---|")?;
+    for state in &side.states {
+        let transitions: Vec<String> = state
+            .transitions
+            .iter()
+            .map(|(event, to)| format!("{} to {to}", does(*event)))
+            .collect();
+        let (holds, transitions) = (state.holds.join(", "), transitions.join("; "));
+        writeln!(out, "| {} | {holds} | {transitions} |", state.name)?;
+    }
+    writeln!(out)
+}
+
+fn write_converter(out: &mut String, example: &Example, records: &[Record]) -> std::fmt::Result {
+    writeln!(out, "\n## Converter\n")?;
+    writeln!(
+        out,
+        "Each line is one transition: what the kernel does, what the host does, and the next record.\n"
+    )?;
+    writeln!(out, "| record | names | kernel | host | next |\n|---|---|---|---|---|")?;
+    for (number, record) in records.iter().enumerate() {
+        let name = |side: usize| &example.sides[side].states[usize::from(record.pair[side])].name;
+        for (place, link) in record.links.iter().enumerate() {
+            let [kernel, host] = link.side_events().map(|event| does(example.named_event(event)));
+            let (shown, names) = match place {
+                0 => (number.to_string(), format!("{}, {}", name(0), name(1))),
+                _ => Default::default(),
+            };
+            writeln!(out, "| {shown} | {names} | {kernel} | {host} | {} |", link.next)?;
+        }
+    }
+    Ok(())
+}
+
+/// What a side does, in words.
+fn does(event: Event) -> String {
+    match event {
+        Event::Tick => "tick".to_string(),
+        Event::Read(name) => format!("read {name}"),
+        Event::Send(name) => format!("send {name}"),
+    }
+}
+
+fn numbered(names: &[&str], first: usize, before: &str) -> String {
+    let each: Vec<String> =
+        (first..).zip(names).map(|(number, name)| format!("{before}{number} {name}")).collect();
+    each.join(", ")
+}
+
+/// A number with a comma before each group of three digits.
+fn grouped(number: u128) -> String {
+    match (number / 1_000, number % 1_000) {
+        (0, low) => low.to_string(),
+        (high, low) => format!("{},{low:03}", grouped(high)),
+    }
+}
+
+/// The page that lists all examples.
+pub fn list(examples: &[Example]) -> String {
+    let mut out = String::from(
+        "# Examples\n\n\
+         Each design stands here as the file that the convert program reads (NAME.design), with what the program writes for it\n\
+         (NAME.converter) and a page that shows the tables, the rules and the converter (NAME.md). Numbers in brackets are those of\n\
+         Table 2 of the source paper. Designs and pages are written from data in host/designs, by\n\
+         `cargo run --release --offline -p designs` in host.\n\n\
+         | example | states | positions | verdict |\n|---|---|---|---|\n",
+    );
+    for example in examples {
+        let design = example.design();
+        let verdict = match example.verdict {
+            Verdict::Converter => "a converter",
+            Verdict::None => "none",
+        };
+        let [kernel, host] = [design.sides[0].len(), design.sides[1].len()];
+        let positions = grouped(positions(&design));
+        let (name, title) = (example.name, example.title);
+        writeln!(out, "| [{title}]({name}.md) | {kernel} and {host} | {positions} | {verdict} |")
+            .expect("a string takes all that is written");
+    }
+    out
+}

@@ -1,0 +1,104 @@
+//! The files of the examples folder are what the data say, and what the data
+//! say of them is so.
+
+use std::fs;
+use std::path::PathBuf;
+
+use checker::bytes::{converter_bytes, positions, read_design};
+use designs::collection::examples;
+use designs::example::{Example, Verdict};
+use designs::page;
+
+fn file(name: &str) -> Vec<u8> {
+    let folder = PathBuf::from(env!("CARGO_MANIFEST_DIR")).join("../../examples");
+    fs::read(folder.join(name)).unwrap_or_else(|error| panic!("{name}: {error}"))
+}
+
+fn text(name: &str) -> String {
+    String::from_utf8(file(name)).expect("a page is text")
+}
+
+/// The converter file of an example.
+fn converted(example: &Example) -> Option<Vec<checker::bytes::Record>> {
+    let bytes = file(&format!("{}.converter", example.name));
+    page::records(&bytes).unwrap_or_else(|number| panic!("{}: refused {number}", example.name))
+}
+
+#[test]
+fn designs_are_what_the_data_say() {
+    for example in examples() {
+        let bytes = file(&format!("{}.design", example.name));
+        assert_eq!(bytes.len(), 2_048);
+        assert_eq!(read_design(&bytes), Ok(example.design()), "{}", example.name);
+        assert_eq!(bytes, example.design().to_bytes(), "{}", example.name);
+    }
+}
+
+#[test]
+fn pages_are_what_the_data_say() {
+    let examples = examples();
+    for example in &examples {
+        let page = page::page(example, converted(example).as_deref());
+        assert_eq!(text(&format!("{}.md", example.name)), page);
+    }
+    assert_eq!(text("README.md"), page::list(&examples));
+}
+
+#[test]
+fn verdicts_are_as_stated() {
+    for example in examples() {
+        let design = example.design();
+        // As many as the convert program has room for.
+        assert!(positions(&design) <= 1_792, "{}", example.name);
+        let found = checker::search::find(&design);
+        assert_eq!(found.is_some(), example.verdict == Verdict::Converter, "{}", example.name);
+        assert_eq!(converted(&example).is_some(), found.is_some(), "{}", example.name);
+    }
+}
+
+#[test]
+fn converters_shown_are_judged_well() {
+    for example in examples() {
+        let Some(records) = converted(&example) else { continue };
+        let mut work = vec![0; 16 * records.len()];
+        let answer =
+            checker::judge(&example.design().to_bytes(), &converter_bytes(&records), &mut work);
+        assert_eq!(answer, Ok(()), "{}", example.name);
+    }
+}
+
+#[test]
+fn positions_by_hand() {
+    let expected = [
+        ("handshake", 1_024),
+        ("handshake-printed", 1_024),
+        // 3 × 3 states, 6 kept, 3 untils.
+        ("lock", 9 * 64 * 3),
+        ("lock-none", 9 * 64 * 3),
+        // 3 × 3 states, 5 kept, 2 untils.
+        ("mutex", 9 * 32 * 2),
+        // 13 × 13 states, 3 kept, 1 until.
+        ("missionaries", 169 * 8),
+        // 3 × 3 states, 6 kept, 1 until.
+        ("ack-nack", 9 * 64),
+        // 3 × 4 states, 6 kept, 2 untils.
+        ("multi-write", 12 * 64 * 2),
+        // 3 × 4 states, 5 kept, 1 until.
+        ("arbiter-producer", 12 * 32),
+        ("arbiter-consumer", 12 * 32),
+        // 3 × 5 states, 5 kept, 2 untils.
+        ("arbiter-masters", 15 * 32 * 2),
+    ];
+    let found: Vec<(&str, u128)> =
+        examples().iter().map(|example| (example.name, positions(&example.design()))).collect();
+    assert_eq!(found, expected);
+}
+
+#[test]
+fn one_rule_as_typed() {
+    let typed: Vec<String> = examples()[0].rules.iter().map(|(_, rule)| rule.to_string()).collect();
+    assert_eq!(typed[0], "AG (idle1 & idle2 -> AX (rout | !rin))");
+    assert_eq!(typed[3], "AG (idle1 & rin -> AX (!rout | idle2))");
+    let lock = &examples()[2];
+    assert_eq!(lock.rules[1].1.to_string(), "AG (waits & !thumb -> A [ !thumb U drags ])");
+}

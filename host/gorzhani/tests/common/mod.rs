@@ -1,0 +1,220 @@
+//! Lent buffers with guard bytes, and each call of the library held against
+//! the second checker: the answer, and every byte of every buffer.
+
+// Each test file uses some of these.
+#![allow(dead_code)]
+
+use checker::bytes::{positions, read_blocks, read_design, write_blocks};
+use checker::generate::Random;
+use gorzhani::{Refused, Runner, BLOCK, CELL, RECORD};
+
+const GUARD: usize = 64;
+
+/// A lent buffer with guard bytes on both sides, and what it held at first.
+pub struct Lent {
+    bytes: Vec<u8>,
+    first: Vec<u8>,
+}
+
+impl Lent {
+    /// A buffer that holds these bytes.
+    pub fn holding(bytes: &[u8]) -> Lent {
+        let guard = |from: u8| (0..GUARD as u8).map(move |at| at.wrapping_mul(7) ^ from);
+        let bytes: Vec<u8> = guard(0xA5).chain(bytes.iter().copied()).chain(guard(0x5A)).collect();
+        Lent { first: bytes.clone(), bytes }
+    }
+
+    /// A buffer of this length with a pattern in it that has no zero.
+    pub fn new(length: usize) -> Lent {
+        let pattern: Vec<u8> = (0..length).map(|at| (at % 251 + 1) as u8).collect();
+        Lent::holding(&pattern)
+    }
+
+    /// The bytes between the guards.
+    pub fn part(&self) -> &[u8] {
+        &self.bytes[GUARD..self.bytes.len() - GUARD]
+    }
+
+    /// The same to be written to.
+    pub fn part_mut(&mut self) -> &mut [u8] {
+        let end = self.bytes.len() - GUARD;
+        &mut self.bytes[GUARD..end]
+    }
+
+    /// Whether the guards and the bytes are as at first, but for `changed` at the front.
+    pub fn holds(&self, changed: &[u8]) -> bool {
+        let (guard, rest) = self.bytes.split_at(GUARD);
+        let (front, behind) = rest.split_at(changed.len());
+        guard == &self.first[..GUARD]
+            && front == changed
+            && behind == &self.first[GUARD + changed.len()..]
+    }
+
+    /// Whether nothing changed.
+    pub fn untouched(&self) -> bool {
+        self.holds(&[])
+    }
+}
+
+/// A runner with guard bytes on both sides.
+#[repr(C)]
+#[derive(Clone, Copy, PartialEq)]
+struct GuardedRunner {
+    before: [u8; 16],
+    runner: Runner,
+    after: [u8; 16],
+}
+
+/// A length that is mostly enough, at times one short, at times more.
+pub fn about(random: &mut Random, enough: usize) -> usize {
+    match random.below(12) {
+        0 => enough.saturating_sub(1),
+        1 => enough + random.from_to(1, 100),
+        2 => random.below(enough + 1),
+        _ => enough,
+    }
+}
+
+/// How often each answer was given; 0 is any that isn't a refusal.
+#[derive(Default)]
+pub struct Answers([usize; 18]);
+
+impl Answers {
+    /// Counts an answer.
+    pub fn count(&mut self, number: u8) {
+        self.0[usize::from(number)] += 1;
+    }
+
+    /// How many were counted.
+    pub fn total(&self) -> usize {
+        self.0.iter().sum()
+    }
+
+    /// Asks that each of these numbers came so often, and no other came.
+    pub fn are(&self, numbers: &[usize], least: usize) {
+        for number in 0..18 {
+            let enough = if numbers.contains(&number) {
+                self.0[number] >= least
+            } else {
+                self.0[number] == 0
+            };
+            assert!(enough, "{number}: {:?}", self.0);
+        }
+    }
+}
+
+fn number<T>(answer: Result<T, Refused>) -> u8 {
+    answer.err().map_or(0, |Refused(number)| number)
+}
+
+/// The positions of the design that these bytes spell, at most `most`.
+pub fn size(bytes: &[u8], most: usize) -> usize {
+    read_design(bytes).map_or(4, |design| positions(&design).min(most as u128) as usize)
+}
+
+/// Searches by both with lent buffers of these lengths.
+pub fn search_agrees(bytes: &[u8], table_length: usize, work_length: usize) -> u8 {
+    let design = Lent::holding(bytes);
+    let (mut table, mut work) = (Lent::new(table_length), Lent::new(work_length));
+    let answer = gorzhani::search(design.part(), table.part_mut(), work.part_mut());
+    let mut other_table = vec![0; table_length];
+    let other = checker::search(bytes, &mut other_table, &mut vec![0; work_length]);
+    assert!(design.untouched());
+    assert_eq!(number(answer), other.err().unwrap_or(0), "{:?}", read_design(bytes));
+    match answer {
+        Ok(records) => {
+            let size = size(bytes, usize::MAX);
+            assert!((1..=size).contains(&records));
+            let found = table.part()[..RECORD * records].to_vec();
+            assert!(table.holds(&found), "the table behind the records is as it was");
+            assert!(work.holds(&vec![0; CELL * size]));
+            assert_eq!(judge_agrees(bytes, &found, CELL * records), 0, "{:?}", read_design(bytes));
+            let other = &other_table[..RECORD * other.expect("the other found one too")];
+            assert_eq!(judge_agrees(bytes, other, CELL * (other.len() / RECORD)), 0);
+        }
+        Err(Refused(16)) => {
+            assert!(table.untouched() && work.holds(&vec![0; CELL * size(bytes, usize::MAX)]));
+        }
+        Err(_) => assert!(table.untouched() && work.untouched()),
+    }
+    number(answer)
+}
+
+/// The converter that the library finds, if there is one.
+pub fn found(bytes: &[u8]) -> Option<Vec<u8>> {
+    let size = size(bytes, usize::MAX);
+    let mut table = vec![0; RECORD * size];
+    let answer = gorzhani::search(bytes, &mut table, &mut vec![0; CELL * size]);
+    match answer {
+        Ok(records) => {
+            table.truncate(RECORD * records);
+            Some(table)
+        }
+        Err(refused) => {
+            assert_eq!(refused, Refused(16));
+            None
+        }
+    }
+}
+
+/// Judges by both with lent work of this length.
+pub fn judge_agrees(bytes: &[u8], converter: &[u8], work_length: usize) -> u8 {
+    let (design, lent) = (Lent::holding(bytes), Lent::holding(converter));
+    let mut work = Lent::new(work_length);
+    let answer = gorzhani::judge(design.part(), lent.part(), work.part_mut());
+    let other = checker::judge(bytes, converter, &mut vec![0; work_length]);
+    assert!(design.untouched() && lent.untouched());
+    assert_eq!(number(answer), other.err().unwrap_or(0), "{:?} {converter:?}", read_design(bytes));
+    match number(answer) {
+        0 | 14 | 15 => assert!(work.holds(&vec![0; CELL * (converter.len() / RECORD)])),
+        _ => assert!(work.untouched()),
+    }
+    number(answer)
+}
+
+/// Writes by both to a lent result of this length.
+pub fn write_agrees(converter: &[u8], length: usize) -> u8 {
+    let lent = Lent::holding(converter);
+    let mut blocks = Lent::new(length);
+    let answer = gorzhani::write(lent.part(), blocks.part_mut());
+    let mut other_blocks = vec![0; length];
+    let other = write_blocks(converter, &mut other_blocks);
+    assert!(lent.untouched());
+    assert_eq!(answer.map_err(|Refused(number)| number), other, "{converter:?}");
+    assert!(blocks.holds(&other_blocks[..BLOCK * other.unwrap_or(0)]));
+    number(answer)
+}
+
+/// Reads by both to a lent result of this length.
+pub fn read_agrees(file: &[u8], length: usize) -> u8 {
+    let lent = Lent::holding(file);
+    let mut memory = Lent::new(length);
+    let answer = gorzhani::read(lent.part(), memory.part_mut());
+    let mut other_memory = vec![0; length];
+    let other = read_blocks(file, &mut other_memory);
+    assert!(lent.untouched());
+    assert_eq!(answer.map_err(|Refused(number)| number), other, "{file:?}");
+    assert!(memory.holds(&other_memory[..RECORD * other.unwrap_or(0)]));
+    number(answer)
+}
+
+/// One tick by both, from the same runner.
+pub fn tick_agrees(converter: &[u8], runner: &mut Runner, shown: [i8; 2]) -> u8 {
+    let lent = Lent::holding(converter);
+    let first = GuardedRunner { before: [0xA5; 16], runner: *runner, after: [0x5A; 16] };
+    let mut guarded = first;
+    let answer = gorzhani::tick(lent.part(), &mut guarded.runner, shown);
+    let mut other = checker::tick::Runner {
+        record: usize::from(runner.record),
+        delivered: [runner.first, runner.second],
+    };
+    let expected = checker::tick(converter, &mut other, shown);
+    assert_eq!(number(answer), expected.err().unwrap_or(0), "{converter:?} {runner:?} {shown:?}");
+    *runner = Runner {
+        record: u16::try_from(other.record).expect("there are at most 65,536 records"),
+        first: other.delivered[0],
+        second: other.delivered[1],
+    };
+    assert!(lent.untouched() && guarded == GuardedRunner { runner: *runner, ..first });
+    number(answer)
+}

@@ -1,0 +1,160 @@
+//! Searches of the library and of the second checker over designs: sound ones of
+//! every size, and ones damaged in length and at single bytes.
+
+mod common;
+
+use checker::brute::{try_all, Outcome};
+use checker::bytes::{converter_bytes, positions, seal, Design, Formula};
+use checker::generate::{any_design, damage, design, ruled_design, Random, Shape};
+use common::{about, found, judge_agrees, search_agrees, size, Answers};
+use gorzhani::{CELL, RECORD};
+
+/// Searches with lengths that are mostly enough.
+fn search_about(random: &mut Random, bytes: &[u8]) -> u8 {
+    let size = size(bytes, 1 << 12);
+    let table_length = about(random, RECORD * size);
+    let work_length = about(random, CELL * size);
+    search_agrees(bytes, table_length, work_length)
+}
+
+#[test]
+fn sound() {
+    let mut random = Random::new(101);
+    let mut answers = Answers::default();
+    for round in 0..24_000 {
+        let made = match round % 6 {
+            0 => any_design(&mut random),
+            1 => design(&mut random, &Shape::FULL),
+            2 => ruled_design(&mut random, &Shape { formulas: 20, rules: 5, ..Shape::SMALL }),
+            3 => ruled_design(&mut random, &Shape::SMALL),
+            _ => ruled_design(&mut random, &Shape::TINY),
+        };
+        answers.count(search_about(&mut random, &made.to_bytes()));
+    }
+    answers.are(&[0, 9, 12, 13, 16], 500);
+}
+
+#[test]
+fn damaged() {
+    let mut random = Random::new(102);
+    let mut answers = Answers::default();
+    for _ in 0..24_000 {
+        let mut bytes = any_design(&mut random).to_bytes();
+        damage(&mut random, &mut bytes);
+        answers.count(search_about(&mut random, &bytes));
+    }
+    answers.are(&[0, 1, 2, 3, 4, 5, 6, 7, 8, 9, 12, 13, 16], 50);
+}
+
+/// A design with every kind of state and of formula.
+fn full_of_kinds() -> Design {
+    let mut random = Random::new(103);
+    loop {
+        let shape = Shape { states: 3, formulas: 14, ..Shape::SMALL };
+        let made = ruled_design(&mut random, &shape);
+        let kinds: std::collections::BTreeSet<u8> =
+            made.to_bytes()[1_028..].chunks(4).take(made.formulas.len()).map(|f| f[0]).collect();
+        let states = made.sides.iter().flat_map(|side| {
+            side.iter().enumerate().map(|(own, state)| format!("{:?}", state.kind(own)))
+        });
+        let states: std::collections::BTreeSet<String> = states.collect();
+        if kinds.len() >= 7 && states.len() == 3 && positions(&made) <= 1 << 10 {
+            return made;
+        }
+    }
+}
+
+#[test]
+fn every_byte_of_a_design() {
+    let sound = full_of_kinds().to_bytes();
+    let size = 1 << 12;
+    let mut answers = Answers::default();
+    for at in 0..sound.len() {
+        for change in [1, 0x80, 0xFF] {
+            let mut bytes = sound.clone();
+            bytes[at] = bytes[at].wrapping_add(change);
+            for repaired in [false, true] {
+                if repaired {
+                    seal(&mut bytes);
+                }
+                answers.count(search_agrees(&bytes, RECORD * size, CELL * size));
+            }
+        }
+    }
+    answers.are(&[0, 2, 3, 4, 5, 6, 7, 8, 16], 3);
+}
+
+#[test]
+fn every_length_of_a_design() {
+    let mut sound = full_of_kinds().to_bytes();
+    sound.extend(vec![0; 600]);
+    let mut answers = Answers::default();
+    for length in 0..sound.len() {
+        let bytes = &sound[..length];
+        assert_eq!(search_agrees(bytes, 36_000, 16_384) == 1, length != 2_048);
+        answers.count(judge_agrees(bytes, &[0; 36], 16));
+    }
+    // A record of zeros has no transition.
+    answers.are(&[1, 11], 1);
+}
+
+#[test]
+fn tiny_designs_against_every_small_converter() {
+    let mut random = Random::new(104);
+    let (mut none, mut some) = (0, 0);
+    for _ in 0..16_000 {
+        let made = ruled_design(&mut random, &Shape::TINY);
+        let tried = try_all(&made, 1_000);
+        if tried == Outcome::TooMany {
+            continue;
+        }
+        let bytes = made.to_bytes();
+        match found(&bytes) {
+            None => {
+                assert_eq!(tried, Outcome::NoneSoSmall, "{made:?}");
+                none += 1;
+            }
+            Some(converter) => {
+                let small = converter.len() <= 3 * RECORD;
+                assert!(!small || tried != Outcome::NoneSoSmall, "{made:?}");
+                some += 1;
+            }
+        }
+        if let Outcome::Found(records) = tried {
+            let converter = converter_bytes(&records);
+            assert_eq!(judge_agrees(&bytes, &converter, CELL * records.len()), 0);
+        }
+    }
+    assert!(none > 2_000 && some > 2_000, "{none} {some}");
+}
+
+#[test]
+fn large() {
+    let mut random = Random::new(105);
+    let mut answers = Answers::default();
+    let shape = Shape { states: 16, transitions: 4, propositions: 6, formulas: 24, rules: 5 };
+    while answers.total() < 100 {
+        let made = ruled_design(&mut random, &shape);
+        if (4_097..=65_536).contains(&positions(&made)) {
+            let (bytes, size) = (made.to_bytes(), positions(&made) as usize);
+            answers.count(search_agrees(&bytes, RECORD * size + 7, CELL * size + 9));
+        }
+    }
+    answers.are(&[0, 16], 10);
+}
+
+/// No design has more positions than can be counted, whatever its formulas are.
+#[test]
+fn as_many_kept_formulas_as_there_may_be() {
+    let side = || full_of_kinds().sides[0].clone();
+    for last in [Formula::Until(0, 0), Formula::Always(0), Formula::Next(0)] {
+        for count in [1, 15, 16, 17, 31, 32, 33, 63] {
+            let mut formulas = vec![Formula::True];
+            formulas.extend(vec![last; count]);
+            let made = Design { sides: [side(), side()], formulas, rules: vec![0, 1, 1] };
+            let size = size(&made.to_bytes(), 65_536);
+            let answer = search_agrees(&made.to_bytes(), RECORD * size, CELL * size);
+            assert_eq!(answer == 9, positions(&made) > 65_536);
+        }
+    }
+}

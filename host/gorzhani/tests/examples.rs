@@ -1,0 +1,41 @@
+//! The files of the examples folder under the library: the verdict beside each
+//! design, and the judge's answer to each converter shown.
+
+use std::fs;
+use std::path::Path;
+
+use gorzhani::{Refused, CELL, RECORD};
+
+/// What the convert program lends: room for 1,792 positions.
+const POSITIONS: usize = 1_792;
+
+#[test]
+fn examples() {
+    let folder = Path::new(env!("CARGO_MANIFEST_DIR")).join("../../examples");
+    let (mut found, mut none) = (0, 0);
+    for entry in fs::read_dir(folder).expect("there are examples") {
+        let path = entry.expect("the folder can be read").path();
+        if path.extension().is_none_or(|extension| extension != "design") {
+            continue;
+        }
+        let design = fs::read(&path).expect("the design can be read");
+        let beside = fs::read(path.with_extension("converter")).expect("a file stands beside it");
+        let mut table = vec![0; RECORD * POSITIONS];
+        let answer = gorzhani::search(&design, &mut table, &mut vec![0; CELL * POSITIONS]);
+        if beside == b"refused 16\n" {
+            assert_eq!(answer, Err(Refused(16)), "{path:?}");
+            none += 1;
+            continue;
+        }
+        assert!(answer.is_ok(), "{path:?}: {answer:?}");
+        let records = gorzhani::read(&beside, &mut table).expect("the file is a converter");
+        let shown = &table[..RECORD * records];
+        assert_eq!(
+            gorzhani::judge(&design, shown, &mut vec![0; CELL * records]),
+            Ok(()),
+            "{path:?}"
+        );
+        found += 1;
+    }
+    assert!(found > 0 && none > 0);
+}
