@@ -22,11 +22,16 @@ pub mod Rows
 pub mod Loading
 pub mod JointSteps
 pub mod PartNumber
+pub mod Blocks
+pub mod AddedStamps
+pub mod JointSweeps
+pub mod Turning
 pub mod Verdicts
 pub mod Asks
 pub mod Answering
 pub mod Connecting
 pub mod Standing
+pub mod Deciding
 pub mod Composing
 pub mod WrittenRecords
 pub mod Emitting

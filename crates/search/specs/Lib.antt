@@ -7,6 +7,7 @@ pub mod State
 pub mod Stamping
 pub mod Moves
 pub mod Steps
+pub mod Turns
 pub mod Queue
 pub mod Choices
 pub mod Emission
