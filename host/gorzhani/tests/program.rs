@@ -83,6 +83,16 @@ fn designs() {
     }
 }
 
+/// What the gate runs the program on: the handshake pair, with the fourth rule as its words say.
+#[test]
+fn handshake() {
+    let beside =
+        |name: &str| Path::new(env!("CARGO_MANIFEST_DIR")).join("../../crates/convert").join(name);
+    let read = |name| std::fs::read(beside(name)).expect("the program has such a file");
+    assert_eq!(convert_agrees(&read("stdin")), 0);
+    assert_eq!(written(&[&read("stdin")]), read("stdout"));
+}
+
 #[test]
 fn lengths() {
     let sound = design(&mut Random::new(110), &Shape::SMALL).to_bytes();
