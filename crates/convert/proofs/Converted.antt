@@ -1,6 +1,6 @@
 -- What is written for a design, where it isn't a refusal's line: a converter file that the block reader takes, and its records are a matched converter under which
 -- every rule of the design holds.
-use mathlib.Core.Path.{_≡_, sym, ap, subst⁻¹, _∙_}
+use mathlib.Core.Path.{_≡_, ap, subst⁻¹, _∙_}
 use mathlib.Core.List.{List}
 use Prim.Native.Nat.{ℕ, _+_, _*_, _≤_}
 use native.Mathlib.Omega.{arith}

@@ -5,15 +5,20 @@ use crate::bytes;
 use crate::designs;
 use crate::lines;
 
-// The judge's answer with so many of the lent bytes.
-fn answer(d: &[u8; 2048], converter: &[u8], lent: &mut [u8], room: usize) -> u64
-    requires { ⌜ room ≤ length (now lent) ⌝ }
-{
-    let v = judge::judge(d, converter, &mut lent[0..room]);
+// The judge's answer as a number.
+pub fn answer(d: &[u8; 2048], converter: &[u8], work: &mut [u8]) -> u64 {
+    let v = judge::judge(d, converter, work);
     match v {
         judge::Verdict::Yes => 0,
         judge::Verdict::Refused(k) => k as u64,
     }
+}
+
+// The same with so many of the lent bytes.
+fn answer_front(d: &[u8; 2048], converter: &[u8], lent: &mut [u8], room: usize) -> u64
+    requires { ⌜ room ≤ length (now lent) ⌝ }
+{
+    answer(d, converter, &mut lent[0..room])
 }
 
 fn same(a: &[u8; 70], b: &[u8; 70]) -> bool {
@@ -26,7 +31,7 @@ fn judged(words: &[u8], d: &[u8; 2048], converter: &[u8], room: usize, cleared: 
 {
     let mut lent = [7u8; 70];
     let mut expected = [7u8; 70];
-    lines::line(words, answer(d, converter, &mut lent, room));
+    lines::line(words, answer_front(d, converter, &mut lent, room));
     layout::ranges::fill(&mut expected, 0, cleared, 0);
     lines::yes_or_no(b"  work as promised", same(&expected, &lent));
 }

@@ -6,6 +6,7 @@ mod designs;
 mod files;
 mod judging;
 mod lines;
+mod searching;
 mod ticks;
 
 fn main() {
@@ -13,5 +14,6 @@ fn main() {
     designs::rows();
     files::rows();
     judging::rows();
+    searching::rows();
     ticks::rows();
 }

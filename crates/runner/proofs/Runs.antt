@@ -10,7 +10,6 @@ use Rattle.model.specs.Events.{Event}
 use Rattle.model.specs.Sides.{Side}
 use Rattle.model.specs.Joined.{zeros}
 use Rattle.model.specs.Converters.{node, Matched}
-use Rattle.model.specs.Designs.{Works}
 use Rattle.model.specs.Runs as model
 use Rattle.model.specs.Runs.{moved, AllAllow, AllDelivered, InStep}
 use Rattle.model.proofs.Joint.{AllRegular, all-regular}
@@ -22,6 +21,9 @@ use Rattle.layout.specs.Refusals.{design-refusal, records-right, converter-refu
 use Rattle.layout.proofs.Accepted.{accepted, converter-length}
 use Rattle.layout.proofs.Passing.{passed}
 use Rattle.layout.proofs.WellFormed.{well-formed}
+use Rattle.search.specs.declared.Outcome.the-variants.{Found}
+use Rattle.search.specs.Search.{Searches}
+use Rattle.search.proofs.Answers.{found-in}
 use Rattle.runner.specs.declared.Runner.{Runner}
 use Rattle.runner.specs.declared.Answer.{Answer}
 use Rattle.runner.specs.declared.Answer.the-variants.{Done, Refused}
@@ -70,10 +72,12 @@ module _ (d : List ℕ) (right : design-refusal d ≡ 0) where
   every-run-from-start cs ok m x y calls =
       every-run (record { converter = cs; runner = record { «record» = 0; first = x; second = y } }) ok m (zeros (design d .sides)) (record { there = m .some-node; names = m .starts }) calls
 
-  -- The same of the first n records of a table, which is what a search promises of its answer n.
-  pub every-run-of-found : (table : List ℕ) (n : ℕ) → converter-refusal (take (record-bytes * n) table) ≡ 0 → Works (design d) (converter (take (record-bytes * n) table)) → (x y : Event) (calls : List Call)
-      → RunRight (design d .sides) (record { converter = take (record-bytes * n) table; runner = record { «record» = 0; first = x; second = y } }) (zeros (design d .sides)) calls
-  every-run-of-found table n ok w x y calls = every-run-from-start (take (record-bytes * n) table) ok (w .matched) x y calls
+-- The same of what a search found, by its promise alone: the first n records of the table that it leaves, where it answers n.
+pub every-run-of-found : (d table work table′ work′ : List ℕ) (n : ℕ) → Searches d table work (Found n) table′ work′ → (x y : Event) (calls : List Call)
+    → RunRight (design d .sides) (record { converter = take (record-bytes * n) table′; runner = record { «record» = 0; first = x; second = y } }) (zeros (design d .sides)) calls
+every-run-of-found d table work table′ work′ n S x y calls =
+    let f = found-in d table work (Found n) table′ work′ S n refl in
+    every-run-from-start d (f .accepted) (take (record-bytes * n) table′) (f .right) (f .works .matched) x y calls
 
 -- ---- one tick
 -- of a tick that was done: the sides, in the states ss, showed xs
