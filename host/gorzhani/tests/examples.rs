@@ -1,10 +1,10 @@
-//! The files of the examples folder under the library: the verdict beside each
-//! design, and the judge's answer to each converter shown.
+//! The files of the examples folder under the library: what is shown beside each
+//! design is what the library answers.
 
 use std::fs;
 use std::path::Path;
 
-use gorzhani::{Refused, CELL, RECORD};
+use gorzhani::{Refused, BLOCK, CELL, RECORD};
 
 /// What the convert program lends: room for 1,792 positions.
 const POSITIONS: usize = 1_792;
@@ -27,14 +27,13 @@ fn examples() {
             none += 1;
             continue;
         }
-        assert!(answer.is_ok(), "{path:?}: {answer:?}");
-        let records = gorzhani::read(&beside, &mut table).expect("the file is a converter");
+        let records = answer.unwrap_or_else(|refused| panic!("{path:?}: {refused:?}"));
         let shown = &table[..RECORD * records];
-        assert_eq!(
-            gorzhani::judge(&design, shown, &mut vec![0; CELL * records]),
-            Ok(()),
-            "{path:?}"
-        );
+        let mut blocks = vec![0; BLOCK * records.div_ceil(14)];
+        assert_eq!(gorzhani::write(shown, &mut blocks), Ok(blocks.len() / BLOCK));
+        assert!(blocks == beside, "{path:?} is shown with another converter");
+        let judged = gorzhani::judge(&design, shown, &mut vec![0; CELL * records]);
+        assert_eq!(judged, Ok(()), "{path:?}");
         found += 1;
     }
     assert!(found > 0 && none > 0);
