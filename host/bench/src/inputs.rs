@@ -34,7 +34,11 @@ pub fn searched() -> Vec<(&'static str, Vec<Vec<Design>>)> {
                 one(levels(16, 12, 5)),
             ],
         ),
-        ("twenty random designs", [1_024, 4_096, 16_384, 65_536].map(random).to_vec()),
+        ("twenty random designs", SIZES.map(|size| random(size, false)).to_vec()),
+        (
+            "twenty random sets of rules over rings of 16 and 15",
+            SIZES.map(|size| random(size, true)).to_vec(),
+        ),
     ]
 }
 
@@ -147,14 +151,21 @@ fn levels(states: usize, ring_states: usize, untils: usize) -> Design {
     Design { sides: [side, ring(ring_states, 14, 15)], formulas, rules }
 }
 
-/// Twenty random designs with at most so many positions and more than half.
-fn random(size: u128) -> Vec<Design> {
+/// Twenty random designs with at most so many positions and more than half;
+/// all of their sides, or only labels and rules over rings that tick on.
+fn random(size: usize, over_rings: bool) -> Vec<Design> {
     let mut random = Random::new(size as u64);
     let shape = Shape { states: 16, transitions: 4, propositions: 6, formulas: 24, rules: 5 };
     let mut made = Vec::new();
     while made.len() < 20 {
-        let design = ruled_design(&mut random, &shape);
-        if (size / 2 + 1..=size).contains(&positions(&design)) {
+        let mut design = ruled_design(&mut random, &shape);
+        if over_rings {
+            design.sides = [16, 15].map(|states| {
+                let mut label = || if random.once_in(8) { 1 << random.below(6) } else { 0 };
+                (0..states).map(|own| state(label(), &[(0, (own + 1) % states)])).collect()
+            });
+        }
+        if (size as u128 / 2 + 1..=size as u128).contains(&positions(&design)) {
             made.push(design);
         }
     }
