@@ -16,15 +16,16 @@ pub struct Judged {
 /// Designs to search, by what they are like, in growing sizes.
 pub fn searched() -> Vec<(&'static str, Vec<Vec<Design>>)> {
     let one = |design: Design| vec![design];
-    let kept = |counts: [usize; 4], make: &dyn Fn(usize) -> Design| -> Vec<Vec<Design>> {
+    let kept = |counts: &[usize], make: &dyn Fn(usize) -> Design| -> Vec<Vec<Design>> {
         counts.iter().map(|&kept| one(make(kept))).collect()
     };
     vec![
-        ("16 by 16 states, an until", kept([2, 4, 6, 8], &|kept| grid(16, kept, true))),
-        ("16 by 16 states, no until", kept([2, 4, 6, 8], &|kept| grid(16, kept, false))),
-        ("4 by 4 states, an until", kept([6, 8, 10, 12], &|kept| grid(4, kept, true))),
-        ("1 by 1 state, rules that are true", kept([10, 12, 14, 16], &trivial)),
-        ("rings of 16 and 15, an until under always", kept([2, 4, 6, 8], &rings)),
+        ("16 by 16 states, an until", kept(&[2, 4, 6, 8], &|kept| grid(16, kept, true))),
+        ("16 by 16 states, no until", kept(&[2, 4, 6, 8], &|kept| grid(16, kept, false))),
+        ("4 by 4 states, an until", kept(&[6, 8, 10, 12], &|kept| grid(4, kept, true))),
+        ("1 by 1 state, rules that are true", kept(&[10, 12, 14, 16], &trivial)),
+        ("rings of 16 and 15, an until under always", kept(&[2, 4, 6, 8], &rings)),
+        ("rings of 16 and 15, an always that fails late", kept(&[3, 5, 7], &late)),
         (
             "levels, four or five untils",
             vec![
@@ -106,14 +107,16 @@ fn trivial(rules: usize) -> Design {
     Design { sides: [side(), side()], formulas, rules: (0..rules as u8).collect() }
 }
 
-/// Rings of 16 and 15 states that meet at their ends again and again.
-fn rings(kept: usize) -> Design {
-    let ring = |states: usize, last: u16, odd: u16| -> Vec<State> {
-        let mut states = ring(states, last, odd);
+/// Rings of 16 and 15 states that only tick.
+fn ticking() -> [Vec<State>; 2] {
+    [ring(16, 0, 1), ring(15, 2, 3)].map(|mut states| {
         states.iter_mut().for_each(|state| state.transitions.truncate(1));
         states
-    };
-    let sides = [ring(16, 0, 1), ring(15, 2, 3)];
+    })
+}
+
+/// Again and again both rings are at their ends, once in 240 ticks.
+fn rings(kept: usize) -> Design {
     let mut formulas = vec![
         Formula::True,
         Formula::Proposition(0),
@@ -124,7 +127,27 @@ fn rings(kept: usize) -> Design {
     ];
     let mut rules = vec![5];
     more_kept(&mut formulas, &mut rules, kept - 2);
-    Design { sides, formulas, rules }
+    Design { sides: ticking(), formulas, rules }
+}
+
+/// Both rings are at their ends at some time, or never: whatever owes the
+/// second is lost, and is found so one tick after the other.
+fn late(kept: usize) -> Design {
+    let mut formulas = vec![
+        Formula::True,
+        Formula::Proposition(0),
+        Formula::Proposition(2),
+        Formula::And(1, 2),
+        Formula::Until(0, 3),
+        Formula::NotProposition(0),
+        Formula::NotProposition(2),
+        Formula::Or(5, 6),
+        Formula::Always(7),
+        Formula::Or(8, 4),
+    ];
+    let mut rules = vec![9];
+    more_kept(&mut formulas, &mut rules, kept - 3);
+    Design { sides: ticking(), formulas, rules }
 }
 
 /// A side that climbs through its levels or falls back to the start, beside a
