@@ -16,15 +16,16 @@ pub struct Judged {
 /// Designs to search, by what they are like, in growing sizes.
 pub fn searched() -> Vec<(&'static str, Vec<Vec<Design>>)> {
     let one = |design: Design| vec![design];
-    let kept = |counts: [usize; 4], make: &dyn Fn(usize) -> Design| -> Vec<Vec<Design>> {
+    let kept = |counts: &[usize], make: &dyn Fn(usize) -> Design| -> Vec<Vec<Design>> {
         counts.iter().map(|&kept| one(make(kept))).collect()
     };
     vec![
-        ("16 by 16 states, an until", kept([2, 4, 6, 8], &|kept| grid(16, kept, true))),
-        ("16 by 16 states, no until", kept([2, 4, 6, 8], &|kept| grid(16, kept, false))),
-        ("4 by 4 states, an until", kept([6, 8, 10, 12], &|kept| grid(4, kept, true))),
-        ("1 by 1 state, rules that are true", kept([10, 12, 14, 16], &trivial)),
-        ("rings of 16 and 15, an until under always", kept([2, 4, 6, 8], &rings)),
+        ("16 by 16 states, an until", kept(&[2, 4, 6, 8], &|kept| grid(16, kept, true))),
+        ("16 by 16 states, no until", kept(&[2, 4, 6, 8], &|kept| grid(16, kept, false))),
+        ("4 by 4 states, an until", kept(&[6, 8, 10, 12], &|kept| grid(4, kept, true))),
+        ("1 by 1 state, rules that are true", kept(&[10, 12, 14, 16], &trivial)),
+        ("rings of 16 and 15, an until under always", kept(&[2, 4, 6, 8], &rings)),
+        ("rings of 16 and 15, an always that fails late", kept(&[3, 5, 7], &late)),
         (
             "levels, four or five untils",
             vec![
@@ -34,7 +35,11 @@ pub fn searched() -> Vec<(&'static str, Vec<Vec<Design>>)> {
                 one(levels(16, 12, 5)),
             ],
         ),
-        ("twenty random designs", [1_024, 4_096, 16_384, 65_536].map(random).to_vec()),
+        ("twenty random designs", SIZES.map(|size| random(size, false)).to_vec()),
+        (
+            "twenty random sets of rules over rings of 16 and 15",
+            SIZES.map(|size| random(size, true)).to_vec(),
+        ),
     ]
 }
 
@@ -102,14 +107,16 @@ fn trivial(rules: usize) -> Design {
     Design { sides: [side(), side()], formulas, rules: (0..rules as u8).collect() }
 }
 
-/// Rings of 16 and 15 states that meet at their ends again and again.
-fn rings(kept: usize) -> Design {
-    let ring = |states: usize, last: u16, odd: u16| -> Vec<State> {
-        let mut states = ring(states, last, odd);
+/// Rings of 16 and 15 states that only tick.
+fn ticking() -> [Vec<State>; 2] {
+    [ring(16, 0, 1), ring(15, 2, 3)].map(|mut states| {
         states.iter_mut().for_each(|state| state.transitions.truncate(1));
         states
-    };
-    let sides = [ring(16, 0, 1), ring(15, 2, 3)];
+    })
+}
+
+/// Again and again both rings are at their ends, once in 240 ticks.
+fn rings(kept: usize) -> Design {
     let mut formulas = vec![
         Formula::True,
         Formula::Proposition(0),
@@ -120,7 +127,27 @@ fn rings(kept: usize) -> Design {
     ];
     let mut rules = vec![5];
     more_kept(&mut formulas, &mut rules, kept - 2);
-    Design { sides, formulas, rules }
+    Design { sides: ticking(), formulas, rules }
+}
+
+/// Both rings are at their ends at some time, or never: whatever owes the
+/// second is lost, and is found so one tick after the other.
+fn late(kept: usize) -> Design {
+    let mut formulas = vec![
+        Formula::True,
+        Formula::Proposition(0),
+        Formula::Proposition(2),
+        Formula::And(1, 2),
+        Formula::Until(0, 3),
+        Formula::NotProposition(0),
+        Formula::NotProposition(2),
+        Formula::Or(5, 6),
+        Formula::Always(7),
+        Formula::Or(8, 4),
+    ];
+    let mut rules = vec![9];
+    more_kept(&mut formulas, &mut rules, kept - 3);
+    Design { sides: ticking(), formulas, rules }
 }
 
 /// A side that climbs through its levels or falls back to the start, beside a
@@ -147,14 +174,21 @@ fn levels(states: usize, ring_states: usize, untils: usize) -> Design {
     Design { sides: [side, ring(ring_states, 14, 15)], formulas, rules }
 }
 
-/// Twenty random designs with at most so many positions and more than half.
-fn random(size: u128) -> Vec<Design> {
+/// Twenty random designs with at most so many positions and more than half;
+/// all of their sides, or only labels and rules over rings that tick on.
+fn random(size: usize, over_rings: bool) -> Vec<Design> {
     let mut random = Random::new(size as u64);
     let shape = Shape { states: 16, transitions: 4, propositions: 6, formulas: 24, rules: 5 };
     let mut made = Vec::new();
     while made.len() < 20 {
-        let design = ruled_design(&mut random, &shape);
-        if (size / 2 + 1..=size).contains(&positions(&design)) {
+        let mut design = ruled_design(&mut random, &shape);
+        if over_rings {
+            design.sides = [16, 15].map(|states| {
+                let mut label = || if random.once_in(8) { 1 << random.below(6) } else { 0 };
+                (0..states).map(|own| state(label(), &[(0, (own + 1) % states)])).collect()
+            });
+        }
+        if (size as u128 / 2 + 1..=size as u128).contains(&positions(&design)) {
             made.push(design);
         }
     }

@@ -14,7 +14,7 @@ use gorzhani::{Refused, BLOCK, CELL, RECORD};
 use inputs::Judged;
 
 /// What is measured is called again until this much time went by, and three times at least.
-const ENOUGH: Duration = Duration::from_millis(60);
+const ENOUGH: Duration = Duration::from_millis(250);
 
 /// A larger size is left out once a call took this long.
 const TOO_LONG: Duration = Duration::from_secs(2);
@@ -52,7 +52,7 @@ fn table<Measured: FnOnce() -> [Duration; 2]>(
     let mut before: Option<[Duration; 2]> = None;
     for (size, measured) in rows {
         if before.is_some_and(|times| times.iter().any(|&time| time > TOO_LONG)) {
-            println!("| {job} | {size} {unit} | left out: too long | | | | |");
+            println!("| {job} | {} {unit} | left out: too long | | | | |", grouped(size));
             continue;
         }
         let times = measured();
@@ -64,10 +64,20 @@ fn table<Measured: FnOnce() -> [Duration; 2]>(
             })
         });
         println!(
-            "| {job} | {size} {unit} | {library} | {baseline} | {ratio:.2} | {} | {} |",
-            growth[0], growth[1]
+            "| {job} | {} {unit} | {library} | {baseline} | {ratio:.2} | {} | {} |",
+            grouped(size),
+            growth[0],
+            growth[1]
         );
         before = Some(times);
+    }
+}
+
+/// A number below a million with a comma before its last three digits.
+fn grouped(number: u128) -> String {
+    match (number / 1_000, number % 1_000) {
+        (0, low) => low.to_string(),
+        (high, low) => format!("{high},{low:03}"),
     }
 }
 
@@ -82,25 +92,40 @@ fn shown(time: Duration) -> String {
 
 /// The shortest time of each of two calls, made in turn.
 fn shortest(mut library: impl FnMut(), mut baseline: impl FnMut()) -> [Duration; 2] {
-    let mut best = [Duration::MAX; 2];
-    let mut spent = [Duration::ZERO; 2];
-    let mut rounds = 0;
-    while rounds < 3 || spent.iter().any(|&spent| spent < ENOUGH) {
-        let start = Instant::now();
-        library();
-        let middle = Instant::now();
-        baseline();
-        let times = [middle - start, middle.elapsed()];
-        for which in 0..2 {
-            best[which] = best[which].min(times[which]);
-            spent[which] += times[which];
-        }
-        rounds += 1;
-        if times.iter().any(|&time| time > TOO_LONG / 4) {
-            break;
-        }
+    let mut times = [Times::default(), Times::default()];
+    while times.iter().any(|times| !times.enough()) {
+        times[0].call(&mut library);
+        times[1].call(&mut baseline);
     }
-    best
+    times.map(|times| times.best.expect("there was a call"))
+}
+
+/// The times of calls of one kind.
+#[derive(Default)]
+struct Times {
+    best: Option<Duration>,
+    spent: Duration,
+    calls: usize,
+}
+
+impl Times {
+    fn enough(&self) -> bool {
+        let slow = self.best.is_some_and(|best| best > TOO_LONG / 4);
+        slow || (self.calls >= 3 && self.spent >= ENOUGH)
+    }
+
+    /// Calls once more, unless there were enough calls.
+    fn call(&mut self, what: &mut impl FnMut()) {
+        if self.enough() {
+            return;
+        }
+        let start = Instant::now();
+        what();
+        let time = start.elapsed();
+        self.best = Some(self.best.map_or(time, |best| best.min(time)));
+        self.spent += time;
+        self.calls += 1;
+    }
 }
 
 /// Searches some designs, one after the other: the time of all.
@@ -179,21 +204,29 @@ fn read(converter: &[u8]) -> [Duration; 2] {
 }
 
 fn ticks(converter: &[u8]) -> [Duration; 2] {
-    let mut runner = gorzhani::Runner::default();
-    let mut other = baseline::Runner::default();
+    const TICKS: usize = 1_000;
     // The sides show nothing: what is read or waited for is delivered.
-    let times = shortest(
+    let library = || {
+        let mut runner = gorzhani::Runner::default();
+        for _ in 0..TICKS {
+            assert_eq!(black_box(gorzhani::tick(converter, &mut runner, [0, 0])), Ok(()));
+        }
+        (runner.record, [runner.first, runner.second])
+    };
+    let baseline = || {
+        let mut runner = baseline::Runner::default();
+        for _ in 0..TICKS {
+            assert_eq!(black_box(baseline::tick(converter, &mut runner, [0, 0])), Ok(()));
+        }
+        (runner.record, runner.delivered)
+    };
+    assert_eq!(library(), baseline(), "the runs agree");
+    shortest(
         || {
-            for _ in 0..1_000 {
-                assert_eq!(black_box(gorzhani::tick(converter, &mut runner, [0, 0])), Ok(()));
-            }
+            black_box(library());
         },
         || {
-            for _ in 0..1_000 {
-                assert_eq!(black_box(baseline::tick(converter, &mut other, [0, 0])), Ok(()));
-            }
+            black_box(baseline());
         },
-    );
-    assert_eq!((runner.record, [runner.first, runner.second]), (other.record, other.delivered));
-    times
+    )
 }
