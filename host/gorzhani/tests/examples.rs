@@ -1,5 +1,7 @@
 //! The files of the examples folder under the library: what is shown beside each
-//! design is what the library answers.
+//! design is what the library answers today. The files were made by it, so this
+//! only finds pages out of date; that the verdicts and converters are right is
+//! tested in host/designs, by the second checker.
 
 use std::fs;
 use std::path::Path;
