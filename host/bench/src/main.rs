@@ -46,16 +46,16 @@ fn main() {
     table("1,000 ticks", "records", sizes().map(|(size, made)| (size, move || ticks(made))));
 }
 
-/// Prints a table's header: a time for the library, and for each of the others a time, the
-/// library's ratio to it; then how each time grew.
+/// Prints a table's header: the library's time; for each of the others its time
+/// and the library's ratio to it; and how the library and the last one grew.
 fn header<const OTHERS: usize>(what: &str, others: [&str; OTHERS]) {
-    let times: String = others.map(|other| format!(" {other} | ratio |")).concat();
-    let growth: String = others.map(|other| format!(" growth, {other} |")).concat();
-    println!("| {what} | size | library |{times} growth, library |{growth}");
-    println!("|---|---|---|{}", "---|".repeat(3 * OTHERS + 1));
+    let times = others.map(|other| format!(" {other} | ratio |")).concat();
+    let last = others[OTHERS - 1];
+    println!("| {what} | size | library |{times} growth, library | growth, {last} |");
+    println!("|---|---|---|{}", "---|".repeat(2 * OTHERS + 2));
 }
 
-/// Prints a row for each size. The first time of each is the library's.
+/// Prints a row for each size. The first of its times is the library's.
 fn table<const TIMES: usize, Measured: FnOnce() -> [Duration; TIMES]>(
     job: &str,
     unit: &str,
@@ -65,7 +65,7 @@ fn table<const TIMES: usize, Measured: FnOnce() -> [Duration; TIMES]>(
     for (size, measured) in rows {
         print!("| {job} | {} {unit} |", grouped(size));
         if before.is_some_and(|times| times.iter().any(|&time| time > TOO_LONG)) {
-            println!(" left out: too long |{}", " |".repeat(3 * TIMES - 3));
+            println!(" left out: too long |{}", " |".repeat(2 * TIMES));
             continue;
         }
         let times = measured();
@@ -73,7 +73,7 @@ fn table<const TIMES: usize, Measured: FnOnce() -> [Duration; TIMES]>(
         for &other in &times[1..] {
             print!(" {} | {:.2} |", shown(other), over(times[0], other));
         }
-        for which in 0..TIMES {
+        for which in [0, TIMES - 1] {
             match before {
                 Some(before) => print!(" {:.1} |", over(times[which], before[which])),
                 None => print!(" |"),
