@@ -1,5 +1,6 @@
 //! A design in flat arrays.
 
+use crate::converter::RECORD;
 use crate::{blank, check, demand, in_range, word};
 
 /// An input state: no sent event.
@@ -107,6 +108,17 @@ impl Design {
     /// How many formulas are of kind 8.
     pub fn untils(&self) -> usize {
         self.formulas.iter().filter(|formula| formula[0] == 8).count()
+    }
+
+    /// The positions, for which the lent table and work must do; or 9, 12 and 13.
+    pub fn room(&self, table: &[u8], work: &[u8]) -> Result<usize, u8> {
+        let kept = self.kept().count_ones();
+        let states = self.states[0] * self.states[1];
+        let positions = (states * self.untils().max(1)).checked_shl(kept).filter(|_| kept <= 16);
+        let positions = positions.filter(|&positions| positions <= 65_536).ok_or(9)?;
+        demand(table.len() >= RECORD * positions, 12)?;
+        demand(work.len() >= 16 * positions, 13)?;
+        Ok(positions)
     }
 }
 

@@ -1,10 +1,12 @@
-//! The calls of the library in plain Rust, written for speed and proved by
-//! nobody: what the benchmark measures the proved library against.
+//! The calls of the library in plain Rust, proved by nobody: what the benchmark
+//! measures the proved library against. All are written for speed, but for
+//! [`same`], which searches by the library's own steps.
 //!
 //! - [`design`]: a design in flat arrays, read with every refusal.
 //! - [`converter`]: converter records, and converter files as blocks.
 //! - [`judge`](mod@judge): truth as one bit set over the records for each formula.
 //! - [`search`](mod@search): the game over bit sets of owed formulas.
+//! - [`same`]: the proved search's own computation, over the lent work.
 //! - [`tick`](mod@tick): one tick.
 
 #![forbid(unsafe_code)]
@@ -12,6 +14,7 @@
 pub mod converter;
 pub mod design;
 pub mod judge;
+pub mod same;
 pub mod search;
 pub mod tick;
 

@@ -24,29 +24,40 @@ fn about(random: &mut Random, enough: usize) -> usize {
     }
 }
 
-/// Searches by both. The checker's answer, 0 for a converter.
+/// A search.
+type Search = fn(&[u8], &mut [u8], &mut [u8]) -> Result<usize, u8>;
+
+/// Searches by the fast baseline, by the proved search's steps and by the
+/// checker. The checker's answer, 0 for a converter.
 fn search_agrees(bytes: &[u8], table_length: usize, work_length: usize) -> u8 {
-    let (mut table, mut work) = (pattern(table_length), pattern(work_length));
     let (mut other_table, mut other_work) = (pattern(table_length), pattern(work_length));
-    let answer = baseline::search(bytes, &mut table, &mut work);
     let other = checker::search(bytes, &mut other_table, &mut other_work);
-    assert_eq!(answer.is_ok(), other.is_ok(), "{answer:?} {other:?} {:?}", read_design(bytes));
-    assert!(work == other_work);
-    match answer {
-        Ok(records) => {
-            let size = positions(&read_design(bytes).unwrap()) as usize;
-            assert!((1..=size).contains(&records));
-            let found = &table[..36 * records];
-            let judged = checker::judge(bytes, found, &mut vec![0; 16 * records]);
-            assert_eq!(judged, Ok(()), "{:?}", read_design(bytes));
-            assert!(table[36 * records..] == pattern(table_length)[36 * records..]);
-        }
-        Err(_) => {
-            assert_eq!(answer, other);
-            assert!(table == pattern(table_length));
+    let searches: [Search; 2] = [baseline::search, baseline::same::search];
+    for search in searches {
+        let (mut table, mut work) = (pattern(table_length), pattern(work_length));
+        let answer = search(bytes, &mut table, &mut work);
+        assert_eq!(answer.is_ok(), other.is_ok(), "{answer:?} {other:?} {:?}", read_design(bytes));
+        assert!(work == other_work);
+        match answer {
+            Ok(records) => found_agrees(bytes, &table, records),
+            Err(_) => {
+                assert_eq!(answer, other);
+                assert!(table == pattern(table_length));
+            }
         }
     }
     other.err().unwrap_or(0)
+}
+
+/// What was found is judged well by the checker, and the table behind it is as
+/// it was.
+fn found_agrees(bytes: &[u8], table: &[u8], records: usize) {
+    let size = positions(&read_design(bytes).unwrap()) as usize;
+    assert!((1..=size).contains(&records));
+    let found = &table[..36 * records];
+    let judged = checker::judge(bytes, found, &mut vec![0; 16 * records]);
+    assert_eq!(judged, Ok(()), "{:?}", read_design(bytes));
+    assert!(table[36 * records..] == pattern(table.len())[36 * records..]);
 }
 
 #[test]

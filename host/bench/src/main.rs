@@ -1,6 +1,8 @@
-//! Prints, from one run, the times of the proved library beside those of the
-//! baseline, their ratio, and how both grow with the size. Both must give the
-//! same answer each time, or the run stops.
+//! Prints, from one run, the times of the proved library beside those of plain
+//! Rust, their ratios, and how they grow with the size. The search is measured
+//! against its own steps in plain Rust and against the fast baseline, every
+//! other call against the baseline. All must give the same answer each time, or
+//! the run stops.
 
 #![forbid(unsafe_code)]
 
@@ -20,15 +22,16 @@ const ENOUGH: Duration = Duration::from_millis(250);
 const TOO_LONG: Duration = Duration::from_secs(2);
 
 fn main() {
-    println!("| job | size | library | baseline | ratio | growth, library | growth, baseline |");
-    println!("|---|---|---|---|---|---|---|");
+    header("search", ["same steps", "fast baseline"]);
     for (job, designs) in inputs::searched() {
         let rows = designs.iter().map(|made| {
             let sizes: Vec<u128> = made.iter().map(positions).collect();
             (sizes.iter().sum::<u128>() / sizes.len() as u128, move || search(made))
         });
-        table(&format!("search, {job}"), "positions", rows);
+        table(job, "positions", rows);
     }
+    println!();
+    header("other calls", ["baseline"]);
     for (job, judged) in inputs::judged() {
         let rows = judged.iter().map(|made| {
             let records = made.converter.len() / RECORD;
@@ -43,34 +46,46 @@ fn main() {
     table("1,000 ticks", "records", sizes().map(|(size, made)| (size, move || ticks(made))));
 }
 
-/// Prints a row for each size.
-fn table<Measured: FnOnce() -> [Duration; 2]>(
+/// Prints a table's header: a time for the library, and for each of the others a time, the
+/// library's ratio to it; then how each time grew.
+fn header<const OTHERS: usize>(what: &str, others: [&str; OTHERS]) {
+    let times: String = others.map(|other| format!(" {other} | ratio |")).concat();
+    let growth: String = others.map(|other| format!(" growth, {other} |")).concat();
+    println!("| {what} | size | library |{times} growth, library |{growth}");
+    println!("|---|---|---|{}", "---|".repeat(3 * OTHERS + 1));
+}
+
+/// Prints a row for each size. The first time of each is the library's.
+fn table<const TIMES: usize, Measured: FnOnce() -> [Duration; TIMES]>(
     job: &str,
     unit: &str,
     rows: impl Iterator<Item = (u128, Measured)>,
 ) {
-    let mut before: Option<[Duration; 2]> = None;
+    let mut before: Option<[Duration; TIMES]> = None;
     for (size, measured) in rows {
+        print!("| {job} | {} {unit} |", grouped(size));
         if before.is_some_and(|times| times.iter().any(|&time| time > TOO_LONG)) {
-            println!("| {job} | {} {unit} | left out: too long | | | | |", grouped(size));
+            println!(" left out: too long |{}", " |".repeat(3 * TIMES - 3));
             continue;
         }
         let times = measured();
-        let [library, baseline] = times.map(shown);
-        let ratio = times[0].as_secs_f64() / times[1].as_secs_f64();
-        let growth = [0, 1].map(|which| {
-            before.map_or(String::new(), |before| {
-                format!("{:.1}", times[which].as_secs_f64() / before[which].as_secs_f64())
-            })
-        });
-        println!(
-            "| {job} | {} {unit} | {library} | {baseline} | {ratio:.2} | {} | {} |",
-            grouped(size),
-            growth[0],
-            growth[1]
-        );
+        print!(" {} |", shown(times[0]));
+        for &other in &times[1..] {
+            print!(" {} | {:.2} |", shown(other), over(times[0], other));
+        }
+        for which in 0..TIMES {
+            match before {
+                Some(before) => print!(" {:.1} |", over(times[which], before[which])),
+                None => print!(" |"),
+            }
+        }
+        println!();
         before = Some(times);
     }
+}
+
+fn over(time: Duration, other: Duration) -> f64 {
+    time.as_secs_f64() / other.as_secs_f64()
 }
 
 /// A number below a million with a comma before its last three digits.
@@ -90,18 +105,18 @@ fn shown(time: Duration) -> String {
     }
 }
 
-/// The shortest time of each of two calls, made in turn.
-fn shortest(mut library: impl FnMut(), mut baseline: impl FnMut()) -> [Duration; 2] {
-    let mut times = [Times::default(), Times::default()];
+/// The shortest time of each of some calls, made in turn.
+fn shortest<const CALLS: usize>(mut calls: [&mut dyn FnMut(); CALLS]) -> [Duration; CALLS] {
+    let mut times = [const { Times::NONE }; CALLS];
     while times.iter().any(|times| !times.enough()) {
-        times[0].call(&mut library);
-        times[1].call(&mut baseline);
+        for (times, call) in times.iter_mut().zip(&mut calls) {
+            times.call(call);
+        }
     }
     times.map(|times| times.best.expect("there was a call"))
 }
 
 /// The times of calls of one kind.
-#[derive(Default)]
 struct Times {
     best: Option<Duration>,
     spent: Duration,
@@ -109,6 +124,8 @@ struct Times {
 }
 
 impl Times {
+    const NONE: Times = Times { best: None, spent: Duration::ZERO, calls: 0 };
+
     fn enough(&self) -> bool {
         let slow = self.best.is_some_and(|best| best > TOO_LONG / 4);
         slow || (self.calls >= 3 && self.spent >= ENOUGH)
@@ -128,34 +145,46 @@ impl Times {
     }
 }
 
-/// Searches some designs, one after the other: the time of all.
-fn search(designs: &[Design]) -> [Duration; 2] {
+/// Searches some designs, one after the other: the time of all by the library,
+/// by its own steps in plain Rust, and by the fast baseline.
+fn search(designs: &[Design]) -> [Duration; 3] {
     let bytes: Vec<Vec<u8>> = designs.iter().map(Design::to_bytes).collect();
     let largest = designs.iter().map(positions).max().expect("there are designs") as usize;
-    let (mut table, mut work) = (vec![0; RECORD * largest], vec![0; CELL * largest]);
+    let lent = || (vec![0; RECORD * largest], vec![0; CELL * largest]);
     for design in &bytes {
-        let library = gorzhani::search(design, &mut table, &mut work);
+        let ((mut table, mut work), (mut same_table, mut same_work)) = (lent(), lent());
+        let library = gorzhani::search(design, &mut table, &mut work).map_err(number);
+        let same = baseline::same::search(design, &mut same_table, &mut same_work);
+        assert_eq!(library, same, "the steps are the same");
+        assert!(table == same_table && work == same_work, "the steps are the same");
         if let Ok(records) = library {
             let mut space = vec![0; CELL * records];
             let judged = baseline::judge(design, &table[..RECORD * records], &mut space);
             assert_eq!(judged, Ok(()), "a converter found keeps the rules");
         }
-        let baseline = baseline::search(design, &mut table, &mut work);
-        assert_eq!(library.map(|_| ()).map_err(number), baseline.map(|_| ()), "the verdicts agree");
+        let fast = baseline::search(design, &mut table, &mut work);
+        assert_eq!(library.map(|_| ()), fast.map(|_| ()), "the verdicts agree");
     }
-    let (mut other_table, mut other_work) = (table.clone(), work.clone());
-    shortest(
-        || {
-            for design in &bytes {
+    let all = |search: &mut dyn FnMut(&[u8])| bytes.iter().for_each(|design| search(design));
+    let [(mut table, mut work), (mut table_2, mut work_2), (mut table_3, mut work_3)] =
+        [lent(), lent(), lent()];
+    shortest([
+        &mut || {
+            all(&mut |design| {
                 let _ = black_box(gorzhani::search(design, &mut table, &mut work));
-            }
+            })
         },
-        || {
-            for design in &bytes {
-                let _ = black_box(baseline::search(design, &mut other_table, &mut other_work));
-            }
+        &mut || {
+            all(&mut |design| {
+                let _ = black_box(baseline::same::search(design, &mut table_2, &mut work_2));
+            })
         },
-    )
+        &mut || {
+            all(&mut |design| {
+                let _ = black_box(baseline::search(design, &mut table_3, &mut work_3));
+            })
+        },
+    ])
 }
 
 fn number(Refused(number): Refused) -> u8 {
@@ -168,24 +197,24 @@ fn judge(made: &Judged) -> [Duration; 2] {
     let library = gorzhani::judge(&made.design, &made.converter, &mut work);
     let baseline = baseline::judge(&made.design, &made.converter, &mut work);
     assert_eq!(library.map_err(number), baseline, "the verdicts agree");
-    shortest(
-        || {
+    shortest([
+        &mut || {
             let _ = black_box(gorzhani::judge(&made.design, &made.converter, &mut work));
         },
-        || {
+        &mut || {
             let _ = black_box(baseline::judge(&made.design, &made.converter, &mut other_work));
         },
-    )
+    ])
 }
 
 fn write(converter: &[u8]) -> [Duration; 2] {
     let count = (converter.len() / RECORD).div_ceil(14);
     let mut blocks = vec![0; BLOCK * count];
     let mut other_blocks = blocks.clone();
-    let times = shortest(
-        || assert_eq!(gorzhani::write(converter, &mut blocks), Ok(count)),
-        || assert_eq!(baseline::write(converter, &mut other_blocks), Ok(count)),
-    );
+    let times = shortest([
+        &mut || assert_eq!(gorzhani::write(converter, &mut blocks), Ok(count)),
+        &mut || assert_eq!(baseline::write(converter, &mut other_blocks), Ok(count)),
+    ]);
     assert!(blocks == other_blocks);
     times
 }
@@ -195,10 +224,10 @@ fn read(converter: &[u8]) -> [Duration; 2] {
     let mut blocks = vec![0; BLOCK * records.div_ceil(14)];
     baseline::write(converter, &mut blocks).expect("the records are right");
     let (mut memory, mut other_memory) = (vec![0; converter.len()], vec![0; converter.len()]);
-    let times = shortest(
-        || assert_eq!(gorzhani::read(&blocks, &mut memory), Ok(records)),
-        || assert_eq!(baseline::read(&blocks, &mut other_memory), Ok(records)),
-    );
+    let times = shortest([
+        &mut || assert_eq!(gorzhani::read(&blocks, &mut memory), Ok(records)),
+        &mut || assert_eq!(baseline::read(&blocks, &mut other_memory), Ok(records)),
+    ]);
     assert!(memory == converter && other_memory == converter);
     times
 }
@@ -221,12 +250,12 @@ fn ticks(converter: &[u8]) -> [Duration; 2] {
         (runner.record, runner.delivered)
     };
     assert_eq!(library(), baseline(), "the runs agree");
-    shortest(
-        || {
+    shortest([
+        &mut || {
             black_box(library());
         },
-        || {
+        &mut || {
             black_box(baseline());
         },
-    )
+    ])
 }
