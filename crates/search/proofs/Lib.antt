@@ -25,6 +25,7 @@ pub mod PartNumber
 pub mod Blocks
 pub mod AddedStamps
 pub mod JointSweeps
+pub mod Pruning
 pub mod Turning
 pub mod Verdicts
 pub mod Asks
