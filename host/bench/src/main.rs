@@ -16,7 +16,7 @@ use gorzhani::{Refused, BLOCK, CELL, RECORD};
 use inputs::Judged;
 
 /// What is measured is called again until this much time went by, and three times at least.
-const ENOUGH: Duration = Duration::from_millis(250);
+const ENOUGH: Duration = Duration::from_millis(500);
 
 /// A larger size is left out once a call took this long.
 const TOO_LONG: Duration = Duration::from_secs(2);
