@@ -22,6 +22,7 @@ pub fn searched() -> Vec<(&'static str, Vec<Vec<Design>>)> {
     vec![
         ("16 by 16 states, an until", kept(&[2, 4, 6, 8], &|kept| grid(16, kept, true))),
         ("16 by 16 states, no until", kept(&[2, 4, 6, 8], &|kept| grid(16, kept, false))),
+        ("16 by 16 states, an until, 64 joint moves", kept(&[2, 4, 6, 8], &crowded)),
         ("4 by 4 states, an until", kept(&[6, 8, 10, 12], &|kept| grid(4, kept, true))),
         ("1 by 1 state, rules that are true", kept(&[10, 12, 14, 16], &trivial)),
         ("rings of 16 and 15, an until under always", kept(&[2, 4, 6, 8], &rings)),
@@ -77,6 +78,19 @@ fn grid(states: usize, kept: usize, until: bool) -> Design {
     more_kept(&mut formulas, &mut rules, kept - count);
     let made = Design { sides, formulas, rules };
     assert_eq!(made.kept().len(), kept);
+    made
+}
+
+/// The same with an until, where every state has eight transitions.
+fn crowded(kept: usize) -> Design {
+    let mut made = grid(16, kept, true);
+    for side in &mut made.sides {
+        for (own, state) in side.iter_mut().enumerate() {
+            let transition =
+                |event: u8| Transition { event: event as i8, target: (own as u8 + event + 1) % 16 };
+            state.transitions = (0..8).map(transition).collect();
+        }
+    }
     made
 }
 
