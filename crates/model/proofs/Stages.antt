@@ -18,7 +18,7 @@ use Rattle.model.proofs.Value.{value}
 use Rattle.model.proofs.Rounds.{Growing, steady, first, first-le, first-holds}
 use Rattle.model.proofs.Joint.{AllRegular, targets-there}
 use Rattle.model.proofs.JointMoves.{joint-listed, listed-joint}
-use Rattle.model.proofs.Untils.{turn, Untils, turn-lt}
+use Rattle.model.proofs.Untils.{turn, passes-one, Untils, turn-lt}
 use Rattle.model.proofs.Masks.{Masks}
 use Rattle.model.proofs.Game.{Set, Can, Meets, Discharged, Closed, discharged?}
 use Rattle.model.proofs.Shows.{show, same-show?}
@@ -154,7 +154,7 @@ module _ (Ss : List Side) (fs : List Form) (M : Masks fs) (U : Untils fs) where
                       leads = r .2;
                       showing = r .3;
                       wins = inside (r .1) (w .0) (turn (U .count) i) (targets-there Ss reg s hs (r .0) (r .1) (r .2)) (sound (w .0) (w .1)) (turn-lt (U .count) i hi) (r .4);
-                      moves = inl (w .2 .1 .0, refl);
+                      moves = inl (passes-one (U .count) (Discharged Ss fs M U s m (w .0)) i (w .2 .1 .0));
                     };
               }
 
