@@ -1,7 +1,6 @@
 -- Lemmas that several functions' proofs cite.
 pub mod CellLaws
 pub mod NextRecords
-pub mod DesignFacts
 pub mod ReadyFacts
 pub mod Greatest
 pub mod SweepLaws

@@ -7,6 +7,7 @@ mod cells;
 mod graph;
 mod labels;
 mod matched;
+mod order;
 mod rules;
 mod sweeps;
 mod until;
