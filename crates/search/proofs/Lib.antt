@@ -27,7 +27,8 @@ pub mod AddedStamps
 pub mod JointSweeps
 pub mod Pruning
 pub mod Turning
-pub mod Verdicts
+pub mod Widening
+pub mod Ratings
 pub mod Asks
 pub mod Answering
 pub mod Connecting
