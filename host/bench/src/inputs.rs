@@ -217,10 +217,12 @@ pub fn judged() -> Vec<(&'static str, Vec<Judged>)> {
     let random = SIZES.map(|records| mesh(records, many_formulas()));
     let ahead = SIZES.map(|records| chain(records, false, until_formulas()));
     let mixed = SIZES.map(|records| chain(records, true, until_formulas()));
+    let failing = SIZES.map(|records| chain(records, true, always_formulas()));
     vec![
         ("64 random formulas, random links", random.into()),
         ("64 formulas, eight untils down a chain in order", ahead.into()),
         ("64 formulas, eight untils down a shuffled chain", mixed.into()),
+        ("64 formulas, eight always that fail at the end of a shuffled chain", failing.into()),
     ]
 }
 
@@ -232,10 +234,18 @@ fn many_formulas() -> (Vec<Formula>, Vec<u8>) {
 
 /// 64 formulas with eight untils that wait for proposition 0.
 fn until_formulas() -> (Vec<Formula>, Vec<u8>) {
-    let mut formulas = vec![Formula::True, Formula::Proposition(0)];
-    for _ in 0..8 {
-        formulas.push(Formula::Until(0, 1));
-    }
+    (eight_times(Formula::Proposition(0), Formula::Until(0, 1)), vec![2, 63])
+}
+
+/// 64 formulas with eight always that fail where proposition 0 is to come.
+fn always_formulas() -> (Vec<Formula>, Vec<u8>) {
+    (eight_times(Formula::NotProposition(0), Formula::Always(1)), vec![0])
+}
+
+/// Formula 1, formulas 2 to 9, which are the same, and others over them.
+fn eight_times(literal: Formula, same: Formula) -> Vec<Formula> {
+    let mut formulas = vec![Formula::True, literal];
+    formulas.extend([same; 8]);
     while formulas.len() < 64 {
         let at = formulas.len();
         formulas.push(if at % 2 == 0 {
@@ -244,7 +254,7 @@ fn until_formulas() -> (Vec<Formula>, Vec<u8>) {
             Formula::Or(at - 2, at - 3)
         });
     }
-    (formulas, vec![2, 63])
+    formulas
 }
 
 /// Converters for the files and the tick.

@@ -166,7 +166,7 @@ fn lock() -> Example {
         Verdict::Converter,
         "\
 A thumbnail job gives the lock back at the next tick. The converter starts one only while nobody waits, and a drag that begins to wait
-during a job gets the lock when the job is done.",
+during a job gets the lock after it.",
     )
 }
 

@@ -1,48 +1,57 @@
 //! What a converter found looks like. The specification leaves it open; its
-//! readers expect every record to be reached, breadth first, and no record
-//! that the positions do not ask for.
+//! readers expect every record to be reached, breadth first, and few of them.
 
-use checker::bytes::positions;
+// Each test file uses some of the samples.
+#[allow(dead_code)]
+#[path = "../../checker/tests/samples/mod.rs"]
+mod samples;
+
+use checker::brute::{try_all, Outcome};
+use checker::bytes::{positions, read_converter_memory, Design, Formula, Record};
 use checker::generate::{ruled_design, Random, Shape};
+use checker::judge::failing_rules;
 use gorzhani::{CELL, RECORD};
+use samples::{figure_five, next_zero_next_one, ruled_handshake, ticking_in_turn, two_inputs};
 
-/// The next records of record `at`, in its own order.
-fn next_of(table: &[u8], at: usize) -> impl Iterator<Item = usize> + '_ {
-    let record = &table[RECORD * at..][..RECORD];
-    let count = usize::from(record[2]);
-    record[4..][..4 * count]
-        .chunks(4)
-        .map(|place| usize::from(u16::from_le_bytes([place[2], place[3]])))
+/// The records that the library finds.
+fn found(made: &Design) -> Option<Vec<Record>> {
+    let size = positions(made) as usize;
+    let (mut table, mut work) = (vec![0; RECORD * size], vec![0; CELL * size]);
+    let count = gorzhani::search(&made.to_bytes(), &mut table, &mut work).ok()?;
+    Some(read_converter_memory(&table[..RECORD * count]).expect("the records are right"))
+}
+
+/// The next records of a record, in its own order.
+fn next_of(record: &Record) -> impl Iterator<Item = usize> + '_ {
+    record.links.iter().map(|link| usize::from(link.next))
 }
 
 #[test]
 fn records_are_reached_breadth_first() {
     let mut random = Random::new(501);
-    let (mut found, mut records) = (0, 0);
-    while found < 2_000 {
+    let (mut tried, mut records) = (0, 0);
+    while tried < 2_000 {
         let made = ruled_design(&mut random, &Shape::SMALL);
-        let size = positions(&made) as usize;
-        if size > 1 << 13 {
+        if positions(&made) > 1 << 13 {
             continue;
         }
-        let (mut table, mut work) = (vec![0; RECORD * size], vec![0; CELL * size]);
-        let Ok(count) = gorzhani::search(&made.to_bytes(), &mut table, &mut work) else {
+        let Some(converter) = found(&made) else {
             continue;
         };
         // A record has its number from the first transition that leads to it.
         let mut seen = 1;
-        for at in 0..count {
+        for (at, record) in converter.iter().enumerate() {
             assert!(at < seen, "record {at} is not reached by those before it");
-            for next in next_of(&table, at) {
+            for next in next_of(record) {
                 assert!(next <= seen, "record {next} comes before record {seen}");
                 seen = seen.max(next + 1);
             }
         }
-        assert_eq!(seen, count);
-        found += 1;
-        records += count;
+        assert_eq!(seen, converter.len());
+        tried += 1;
+        records += converter.len();
     }
-    assert!(records > 2 * found, "the designs are too small to tell");
+    assert!(records > 2 * tried, "the designs are too small to tell");
 }
 
 #[test]
@@ -51,14 +60,106 @@ fn without_rules_each_pair_has_one_record() {
     for _ in 0..500 {
         let mut made = ruled_design(&mut random, &Shape::SMALL);
         (made.formulas, made.rules) = (vec![], vec![]);
-        let size = positions(&made) as usize;
-        let (mut table, mut work) = (vec![0; RECORD * size], vec![0; CELL * size]);
-        let count = gorzhani::search(&made.to_bytes(), &mut table, &mut work)
-            .expect("with no rules a converter exists");
-        let mut pairs: Vec<_> =
-            (0..count).map(|at| [table[RECORD * at], table[RECORD * at + 1]]).collect();
+        let converter = found(&made).expect("with no rules a converter exists");
+        let mut pairs: Vec<_> = converter.iter().map(|record| record.pair).collect();
         pairs.sort_unstable();
         pairs.dedup();
-        assert_eq!(pairs.len(), count);
+        assert_eq!(pairs.len(), converter.len());
     }
+}
+
+#[test]
+fn the_rows_get_the_fewest_records() {
+    // As many as the paper's converter has.
+    let count = |made: &Design| found(made).expect("a converter exists").len();
+    assert_eq!(count(&ruled_handshake(false)), figure_five().len());
+    // One for each pair that is reached: two in turn; h0, and one of h1 and h2.
+    assert_eq!(count(&ticking_in_turn()), 2);
+    let mut formulas = next_zero_next_one();
+    formulas.push(Formula::Or(2, 3));
+    assert_eq!(count(&two_inputs(formulas, vec![4])), 2);
+}
+
+#[test]
+fn close_to_the_smallest() {
+    let mut random = Random::new(503);
+    let (mut tried, mut ours, mut smallest, mut equal) = (0, 0, 0, 0);
+    while tried < 1_000 {
+        let made = ruled_design(&mut random, &Shape::TINY);
+        // The smallest are tried first.
+        let Outcome::Found(least) = try_all(&made, 2_000) else {
+            continue;
+        };
+        let count = found(&made).expect("a converter exists").len();
+        assert!(count >= least.len(), "there is none so small");
+        tried += 1;
+        ours += count;
+        smallest += least.len();
+        equal += usize::from(count == least.len());
+    }
+    assert!(smallest > tried, "the designs are too small to tell");
+    assert!(20 * equal > 19 * tried, "{equal} of {tried} are as small as can be");
+    assert!(100 * ours < 103 * smallest, "{ours} records where {smallest} are enough");
+}
+
+/// The converter with record `gone` left out and `kept` in its place, with the
+/// records that are still reached.
+fn merged(converter: &[Record], kept: usize, gone: usize) -> Vec<Record> {
+    let stands_for = |record: usize| if record == gone { kept } else { record };
+    let mut order = vec![stands_for(0)];
+    let mut head = 0;
+    while head < order.len() {
+        for next in next_of(&converter[order[head]]).map(stands_for) {
+            if !order.contains(&next) {
+                order.push(next);
+            }
+        }
+        head += 1;
+    }
+    let mut left: Vec<Record> = order.iter().map(|&record| converter[record].clone()).collect();
+    for link in left.iter_mut().flat_map(|record| &mut record.links) {
+        let next = stands_for(usize::from(link.next));
+        let at = order.iter().position(|&record| record == next).expect("it is reached");
+        link.next = at as u16;
+    }
+    left
+}
+
+/// The converter after records have taken the place of others, one after the
+/// other, as long as every rule holds.
+fn shrunk(made: &Design, mut converter: Vec<Record>) -> Vec<Record> {
+    'again: loop {
+        for kept in 0..converter.len() {
+            for gone in (0..converter.len()).filter(|&gone| gone != kept) {
+                if converter[kept].pair == converter[gone].pair {
+                    let smaller = merged(&converter, kept, gone);
+                    if failing_rules(made, &smaller).is_empty() {
+                        converter = smaller;
+                        continue 'again;
+                    }
+                }
+            }
+        }
+        return converter;
+    }
+}
+
+#[test]
+fn few_records_could_stand_for_others() {
+    let mut random = Random::new(504);
+    let (mut tried, mut records, mut needed) = (0, 0, 0);
+    while tried < 500 {
+        let made = ruled_design(&mut random, &Shape::SMALL);
+        if positions(&made) > 1 << 13 {
+            continue;
+        }
+        let Some(converter) = found(&made) else {
+            continue;
+        };
+        tried += 1;
+        records += converter.len();
+        needed += shrunk(&made, converter).len();
+    }
+    assert!(needed > 2 * tried, "the designs are too small to tell");
+    assert!(100 * records < 103 * needed, "{records} records where {needed} are enough");
 }

@@ -86,7 +86,7 @@ fn a_long_way_to_what_an_until_waits_for() {
         let mut stuck = converter.clone();
         stuck[records - 2].links[0] = Link { events: [0, 0], next: (records - 2) as u16 };
         assert_eq!(judge_agrees(&bytes, &converter_bytes(&stuck), CELL * records + 5), 15);
-        // A record that nothing leads to is out of order.
+        // The last record names a state that there isn't.
         let mut unmatched = converter;
         unmatched[records - 1].pair = [2, 0];
         assert_eq!(judge_agrees(&bytes, &converter_bytes(&unmatched), CELL * records), 14);

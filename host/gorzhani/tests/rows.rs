@@ -49,6 +49,14 @@ fn figure_five_unmatched() {
     fourth.push(record([0, 1], &[([1, -2], 1), ([0, -2], 0)]));
     fourth[0] = record([0, 0], &[([1, 0], 1), ([0, 0], 0), ([0, -1], 3)]);
     assert_eq!(judged(&mended, &fourth), 14);
+    // A record that nothing leads to counts too, even where its pair is never reached.
+    let mut unreached = figure_five();
+    unreached.push(record([1, 1], &[([2, -2], 0), ([0, -2], 1)]));
+    assert_eq!(judged(&mended, &unreached), 0);
+    unreached[3].links.remove(1);
+    assert_eq!(judged(&mended, &unreached), 14);
+    unreached[3].pair = [2, 1];
+    assert_eq!(judged(&mended, &unreached), 14);
 }
 
 #[test]
