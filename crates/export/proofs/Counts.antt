@@ -4,21 +4,22 @@ use mathlib.Core.List.{List}
 use Prim.Native.Nat.{ℕ, _*_, _≤_}
 use native.Mathlib.Omega.{arith}
 use lib.ListN.{length, take}
-use Rattle.layout.specs.declared.answers.Written.{Written}
-use Rattle.layout.specs.declared.answers.Written.the-variants.{Blocks}
-use Rattle.layout.specs.declared.answers.Read.{Read}
-use Rattle.layout.specs.declared.answers.Read.the-variants.{Records}
+use Rattle.files.specs.declared.answers.Written.{Written}
+use Rattle.files.specs.declared.answers.Written.the-variants.{Blocks}
+use Rattle.files.specs.declared.answers.Read.{Read}
+use Rattle.files.specs.declared.answers.Read.the-variants.{Records}
 use Rattle.layout.specs.Sizes.{record-bytes, most-records}
 use Rattle.layout.specs.Converters.{records}
-use Rattle.layout.specs.Files.{file-count, blocks-for}
-use Rattle.layout.specs.Answers.{Writes, Reads}
-use Rattle.layout.proofs.Accepted.{accepted, write-accepted}
-use Rattle.layout.proofs.AcceptedFiles.{read-accepted}
+use Rattle.files.specs.Files.{file-count, blocks-for}
+use Rattle.files.specs.Answers.{Writes, Reads}
+use Rattle.refusals.proofs.Accepted.{accepted}
+use Rattle.files.proofs.AcceptedWrites.{write-accepted}
+use Rattle.files.proofs.AcceptedFiles.{read-accepted}
 use Rattle.search.specs.declared.Outcome.{Outcome}
 use Rattle.search.specs.declared.Outcome.the-variants.{Found}
 use Rattle.search.specs.Search.{Searches}
 use Rattle.search.proofs.Answers.{found-in}
-use Rattle.layout.proofs.Outcomes.{write-does, write-passed, read-does, read-passed}
+use Rattle.files.proofs.Outcomes.{write-does, write-passed, read-does, read-passed}
 
 module _ (ds table work : List ℕ) (a : Outcome) (table′ work′ : List ℕ) where
   pub search-count : Searches ds table work a table′ work′ → (n : ℕ) → a ≡ Found n → n ≤ most-records

@@ -2,10 +2,10 @@
 use mathlib.Core.Path.{_≡_}
 use Prim.Native.Nat.{ℕ}
 use lib.IntN.{ℤ, pos, negℤ}
-use Rattle.layout.specs.declared.answers.Written.{Written}
-use Rattle.layout.specs.declared.answers.Written.the-variants as written
-use Rattle.layout.specs.declared.answers.Read.{Read}
-use Rattle.layout.specs.declared.answers.Read.the-variants as read
+use Rattle.files.specs.declared.answers.Written.{Written}
+use Rattle.files.specs.declared.answers.Written.the-variants as written
+use Rattle.files.specs.declared.answers.Read.{Read}
+use Rattle.files.specs.declared.answers.Read.the-variants as read
 use Rattle.search.specs.declared.Outcome.{Outcome}
 use Rattle.search.specs.declared.Outcome.the-variants as outcome
 use Rattle.judge.specs.declared.Verdict.{Verdict}

@@ -5,15 +5,16 @@ ghost use mathlib.Core.List.{[], _∷_};
 ghost use Prim.Native.Nat.{_≤_};
 ghost use lib.IntN.{pos};
 ghost use Rattle.layout.specs.Sizes.{most-records};
-ghost use Rattle.layout.specs.Answers.{Writes, Reads};
+ghost use Rattle.files.specs.Answers.{Writes, Reads};
 ghost use Rattle.judge.specs.Judge.{Judges};
 ghost use Rattle.search.specs.Search.{Searches};
 ghost use Rattle.runner.specs.Ticks.{Ticks};
 ghost use Rattle.export.specs.Codes.{refusal-code, search-code, judge-code, write-code, read-code, tick-code, Coded};
 use judge::Verdict;
-use layout::answers::Read;
-use layout::answers::Written;
-use layout::files;
+use files::answers::Read;
+use files::answers::Written;
+use files::reader;
+use files::writer;
 use runner::Answer;
 use runner::Runner;
 use search::Outcome;
@@ -62,7 +63,7 @@ pub extern "C" fn gorzhani_judge(design: &[u8], converter: &[u8], work: &mut [u8
 pub extern "C" fn gorzhani_write(converter: &[u8], blocks: &mut [u8]) -> i32
     ensures { λ r. ⌜ Coded write-code (Writes (now (converter .entry)) (now (blocks .entry)) (now (blocks .exit))) r ⌝ }
 {
-    let answer = files::write(converter, blocks);
+    let answer = writer::write(converter, blocks);
     match answer {
         Written::Blocks(n) => counted(n),
         Written::Refused(k) => refused(k),
@@ -74,7 +75,7 @@ pub extern "C" fn gorzhani_write(converter: &[u8], blocks: &mut [u8]) -> i32
 pub extern "C" fn gorzhani_read(blocks: &[u8], converter: &mut [u8]) -> i32
     ensures { λ r. ⌜ Coded read-code (Reads (now (blocks .entry)) (now (converter .entry)) (now (converter .exit))) r ⌝ }
 {
-    let answer = files::read(blocks, converter);
+    let answer = reader::read(blocks, converter);
     match answer {
         Read::Records(n) => counted(n),
         Read::Refused(k) => refused(k),

@@ -2,18 +2,11 @@
 ghost use mathlib.Core.Path.{_≡_};
 ghost use Rattle.judge.specs.Judge.{judge-refusal, Judges};
 
-mod always;
-mod cells;
-mod graph;
-mod labels;
-mod matched;
-mod order;
 mod rules;
-mod sweeps;
-mod until;
 
-use layout::converters;
-use layout::design_tests;
+use labelling::cells;
+use refusals::converters;
+use refusals::design_tests;
 use layout::ranges;
 
 // Yes, or a refusal's number.

@@ -10,8 +10,4 @@ pub mod Blocks
 pub mod Designs
 pub mod Joint
 pub mod Converters
-pub mod Files
 pub mod Tests
-pub mod Refusals
-pub mod Counted
-pub mod Answers

@@ -160,7 +160,7 @@ pub fn ruled(d: &mut [u8; 2048], mended: bool) {
 // ---- reading
 
 fn read(words: &[u8], d: &[u8; 2048]) {
-    lines::line(words, layout::design_tests::design_refusal(d) as u64);
+    lines::line(words, refusals::design_tests::design_refusal(d) as u64);
 }
 
 // H whose s0 sends this event, or ticks to this state.
@@ -209,27 +209,27 @@ fn lengths() {
     let none = [0u8; 0];
     lines::line(
         b"a design of 0 bytes",
-        layout::design_tests::design_refusal(&none) as u64,
+        refusals::design_tests::design_refusal(&none) as u64,
     );
     let one = [0u8; 1];
     lines::line(
         b"a design of 1 byte",
-        layout::design_tests::design_refusal(&one) as u64,
+        refusals::design_tests::design_refusal(&one) as u64,
     );
     let block = [0u8; 511];
     lines::line(
         b"a design of 511 bytes",
-        layout::design_tests::design_refusal(&block) as u64,
+        refusals::design_tests::design_refusal(&block) as u64,
     );
     let short = [0u8; 2047];
     lines::line(
         b"a design of 2047 bytes",
-        layout::design_tests::design_refusal(&short) as u64,
+        refusals::design_tests::design_refusal(&short) as u64,
     );
     let long = [0u8; 2049];
     lines::line(
         b"a design of 2049 bytes",
-        layout::design_tests::design_refusal(&long) as u64,
+        refusals::design_tests::design_refusal(&long) as u64,
     );
 }
 

@@ -3,7 +3,7 @@
 mod build;
 mod bytes;
 mod designs;
-mod files;
+mod filing;
 mod judging;
 mod lines;
 mod searching;
@@ -12,7 +12,7 @@ mod ticks;
 fn main() {
     lines::checks();
     designs::rows();
-    files::rows();
+    filing::rows();
     judging::rows();
     searching::rows();
     ticks::rows();

@@ -30,11 +30,11 @@ fn judged(d: &[u8; 2048], table: &[u8], n: usize, work: &mut [u8]) {
 
 // The positions of a design that isn't refused, 65,537 where there are more than 65,536.
 fn positions(d: &[u8]) {
-    let refusal = layout::design_tests::design_refusal(d);
+    let refusal = refusals::design_tests::design_refusal(d);
     if refusal != 0 {
         return;
     }
-    let n = layout::positions::positions_of(d);
+    let n = refusals::positions::positions_of(d);
     lines::line(b"  positions", n as u64);
 }
 

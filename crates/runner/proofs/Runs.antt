@@ -17,10 +17,10 @@ use Rattle.model.proofs.Runs as model-runs
 use Rattle.layout.specs.Sizes.{record-bytes}
 use Rattle.layout.specs.Designs.{design}
 use Rattle.layout.specs.Converters.{records, converter}
-use Rattle.layout.specs.Refusals.{design-refusal, records-right, converter-refusal}
-use Rattle.layout.proofs.Accepted.{accepted, converter-length}
-use Rattle.layout.proofs.Passing.{passed}
-use Rattle.layout.proofs.WellFormed.{well-formed}
+use Rattle.refusals.specs.Refusals.{design-refusal, records-right, converter-refusal}
+use Rattle.refusals.proofs.Accepted.{accepted, converter-length}
+use Rattle.refusals.proofs.Passing.{passed}
+use Rattle.refusals.proofs.WellFormed.{well-formed}
 use Rattle.search.specs.declared.Outcome.the-variants.{Found}
 use Rattle.search.specs.Search.{Searches}
 use Rattle.search.proofs.Answers.{found-in}

@@ -14,7 +14,7 @@ use Rattle.model.specs.Runs.{all-fit, first-fit}
 use Rattle.layout.specs.Sizes.{last-event}
 use Rattle.layout.specs.Converters.{records, converter}
 use Rattle.layout.specs.Tests.{in-range}
-use Rattle.layout.proofs.Accepted.{right-well-formed}
+use Rattle.refusals.proofs.Accepted.{right-well-formed}
 use Rattle.layout.proofs.Nodes.{WellFormedNode}
 use Rattle.layout.proofs.SignedBytes.{read-back}
 use Rattle.layout.proofs.Tables.{all-true}

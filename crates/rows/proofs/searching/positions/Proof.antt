@@ -1,7 +1,7 @@
 -- `searching::positions` meets its contract: a design that isn't refused is counted.
 use mathlib.Core.Path.{sym, _∙_}
 use borrow.Author.Needs.{needs}
-use Rattle.layout.proofs.CountedBytes.{accepted-counts}
+use Rattle.refusals.proofs.CountedBytes.{accepted-counts}
 use Rattle.rows.proofs.searching.positions.Statement.{statement}
 use Rattle.rows.proofs.searching.positions.Tie as tie
 
