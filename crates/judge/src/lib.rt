@@ -8,6 +8,7 @@ use labelling::cells;
 use refusals::converters;
 use refusals::design_tests;
 use layout::ranges;
+use layout::sizes;
 
 // Yes, or a refusal's number.
 pub enum Verdict {
@@ -27,7 +28,7 @@ fn judge_refusal(design: &[u8], converter: &[u8], room: usize) -> u8
     if of_converter != 0 {
         return of_converter;
     }
-    if room < cells::CELL_BYTES * converters::count(converter) {
+    if room < sizes::CELL_BYTES * converters::count(converter) {
         return 13;
     }
     0
@@ -42,7 +43,7 @@ pub fn judge(design: &[u8], converter: &[u8], work: &mut [u8]) -> Verdict
         return Verdict::Refused(refusal);
     }
     let found = rules::verdict(design, converter, work);
-    ranges::fill(work, 0, cells::CELL_BYTES * converters::count(converter), 0);
+    ranges::fill(work, 0, sizes::CELL_BYTES * converters::count(converter), 0);
     if found != 0 {
         return Verdict::Refused(found);
     }

@@ -30,6 +30,10 @@ last-event = 63
 abbrev pub most-positions : ℕ
 most-positions = 65536
 
+-- lent work: so many bytes for each position of a search and for each record that is judged
+abbrev pub cell-bytes : ℕ
+cell-bytes = 16
+
 -- ---- records: their bytes, where a record with places has its count and its places, and the bytes of a place
 abbrev pub state-bytes : ℕ
 state-bytes = 20
