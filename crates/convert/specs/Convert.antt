@@ -1,4 +1,4 @@
--- 01, "The program": from the bytes of a design to the blocks of the converter that a search finds, or to the number of a refusal.
+-- Specification, "The program": from the bytes of a design to the blocks of the converter that a search finds, or to the number of a refusal.
 use mathlib.Core.Path.{_≡_}
 use mathlib.Core.List.{List}
 use Prim.Native.Nat.{ℕ, _*_}

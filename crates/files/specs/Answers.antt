@@ -1,5 +1,5 @@
--- 01, "When a call declines": "A refusal answers its number alone." "Reader and writer answer the count of records or blocks, and change only those
--- bytes." What the writer and the block reader answer, and what each lent byte is after.
+-- Specification, "When a call declines": a refusal answers its number alone; reader and writer answer the count of records or blocks, and change only those
+-- bytes. What the writer and the block reader answer, and what each lent byte is after.
 use mathlib.Core.Path.{_≡_}
 use mathlib.Core.Bool.{cond}
 use mathlib.Core.List.{List}

@@ -1,4 +1,4 @@
--- 01, "When a call declines": the refusals of the writer and of the block reader, each in 01's order.
+-- Specification, "When a call declines": the refusals of the writer and of the block reader, each in the specification's order.
 use mathlib.Core.Bool.{Bool, _&&_, cond}
 use mathlib.Core.List.{List, [], _∷_, _++_}
 use Prim.Native.Nat.{ℕ, _*_, _%_, min}

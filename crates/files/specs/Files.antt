@@ -1,5 +1,5 @@
--- 01, "Bytes": a converter file is blocks of kind 5, 14 records each, the last 1 to 14, first records 0, 14, 28 and so on. From the file to its records,
--- and from records to the file.
+-- Specification, "Bytes": a converter file is blocks of kind 5, 14 records each, the last 1 to 14, first records 0, 14, 28 and so on. From the file to its
+-- records, and from records to the file.
 use mathlib.Core.Bool.{cond}
 use mathlib.Core.List.{List, flatten}
 use Prim.Native.Nat.{ℕ, _+_, _-_, _*_, _/_, _%_, min}

@@ -11,11 +11,11 @@ ghost use Rattle.files.specs.Files.{blocks, file-block, file-count, file
 ghost use Rattle.files.specs.FileRefusals.{earlier, file-size-right, file-tests, read-refusal};
 ghost use Rattle.files.specs.Answers.{Reads};
 use crate::answers::Read;
-use refusals::blocks;
-use refusals::converters;
 use layout::ranges;
 use layout::sizes;
 use layout::words;
+use refusals::blocks;
+use refusals::converters;
 
 // How many blocks there are.
 pub fn block_count(s: &[u8]) -> usize

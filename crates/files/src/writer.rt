@@ -11,10 +11,10 @@ ghost use Rattle.files.specs.Files.{blocks-for, written-block, written};
 ghost use Rattle.files.specs.FileRefusals.{write-refusal};
 ghost use Rattle.files.specs.Answers.{Writes};
 use crate::answers::Written;
-use refusals::converters;
 use layout::ranges;
 use layout::sizes;
 use layout::words;
+use refusals::converters;
 
 // How many blocks n records fill.
 pub fn blocks_for(n: usize) -> usize

@@ -5,10 +5,10 @@ ghost use Rattle.judge.specs.Judge.{judge-refusal, Judges};
 mod rules;
 
 use labelling::cells;
-use refusals::converters;
-use refusals::design_tests;
 use layout::ranges;
 use layout::sizes;
+use refusals::converters;
+use refusals::design_tests;
 
 // Yes, or a refusal's number.
 pub enum Verdict {

@@ -1,4 +1,4 @@
--- What a reader must believe of bytes, in the order in which 01 tells it.
+-- What a reader must believe of bytes, in the order in which the specification tells it.
 pub mod Sizes
 pub mod Tables
 pub mod Bytes

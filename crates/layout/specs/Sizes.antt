@@ -1,4 +1,4 @@
--- 01, "Bytes" and "When a call declines": every size and every limit, in one place.
+-- Specification, "Bytes" and "When a call declines": every size and every limit, in one place.
 use Prim.Native.Nat.{ℕ}
 
 -- ---- what a design has

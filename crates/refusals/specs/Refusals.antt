@@ -1,4 +1,4 @@
--- 01, "When a call declines": the refusals as tests of the whole input, and for each caller the list of its numbers in 01's order.
+-- Specification, "When a call declines": the refusals as tests of the whole input, and for each caller the list of its numbers in the specification's order.
 use mathlib.Core.Bool.{Bool, _&&_, cond}
 use mathlib.Core.List.{List, [], _∷_}
 use Prim.Native.Nat.{ℕ, _+_, _*_, _%_}

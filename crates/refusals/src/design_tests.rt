@@ -12,9 +12,9 @@ ghost use Rattle.refusals.specs.Counted.{Counted};
 ghost use Rattle.layout.specs.Tests.{side-right, kinds-right, forms-right, rules-right};
 ghost use Rattle.refusals.specs.Refusals.{check-right, header-right, count-right, kinds-known, formulas-right, unused-right, design-refusal};
 use crate::blocks;
+use crate::state_tests;
 use layout::designs;
 use layout::sizes;
-use crate::state_tests;
 
 // ---- 2, 3, 4: block by block. Block i has kind i + 1.
 const BLOCKS: usize = 4;

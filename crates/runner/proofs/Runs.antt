@@ -1,5 +1,5 @@
--- Theorem 3 at the bytes: of every run over the bytes of a matched converter what 01 says under "The tick" is true. Call by call the run is the model's, so
--- the model's theorem carries over.
+-- Theorem 3 at the bytes: of every run over the bytes of a matched converter what the specification says under "The tick" is true. Call by call the run is the
+-- model's, so the model's theorem carries over.
 use mathlib.Core.Path.{_≡_, refl, sym, ap, subst, _∙_}
 use mathlib.Core.List.{List, [], _∷_, map}
 use Prim.Native.Nat.{ℕ, _*_, _<_}

@@ -1,4 +1,4 @@
--- 01, "The tick": one tick over the bytes of a converter. What is shown and what is delivered are lists with one event a side.
+-- Specification, "The tick": one tick over the bytes of a converter. What is shown and what is delivered are lists with one event a side.
 use mathlib.Core.Path.{_≡_}
 use mathlib.Core.Bool.{Bool, cond}
 use mathlib.Core.List.{List, [], _∷_}

@@ -13,10 +13,10 @@ ghost use Rattle.layout.specs.Converters.{records, converter};
 ghost use Rattle.layout.specs.Tests.{in-range};
 ghost use Rattle.refusals.specs.Refusals.{record-right};
 ghost use Rattle.runner.specs.Ticks.{can-show, tick-refusal, taken, ticked, Ticks};
-use refusals::converters;
 use layout::events;
 use layout::records::Transition;
 use layout::sizes::RECORD_BYTES;
+use refusals::converters;
 
 // What a host lends: the number of a record, and the events last delivered to the sides.
 #[repr(C)]

@@ -1,6 +1,6 @@
 //! A second checker for converters between a kernel table and a host table.
 //!
-//! It answers the same questions as the verified code, from the scope paper
+//! It answers the same questions as the verified code, from the specification
 //! alone and by another method: plain parsing, explicit sets of states and of
 //! formulas, and no numbering of positions. Where the two differ, one is wrong.
 //!

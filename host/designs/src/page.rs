@@ -136,7 +136,7 @@ pub fn list(examples: &[Example]) -> String {
         "# Examples\n\n\
          Each design stands here as the file that the convert program reads (NAME.design), with what the program writes for it\n\
          (NAME.converter) and a page that shows the tables, the rules and the converter (NAME.md). Numbers in brackets are those of\n\
-         Table 2 of the source paper. Designs and pages are written from the data in host/designs:\n\n\
+         Table 2 of the paper that docs/SPECIFICATION.md names. Designs and pages are written from the data in host/designs:\n\n\
          \x20   cd host && cargo run --release --offline --locked -p designs\n\n\
          and a converter by `target/bin/convert < NAME.design > NAME.converter`.\n\n\
          | example | states | positions | verdict |\n|---|---|---|---|\n",

@@ -1,5 +1,5 @@
-//! The designs and converters of the scope paper's rows, and calls that hold
-//! every lent byte against what the paper says of it.
+//! The designs and converters of the specification's rows, and calls that hold
+//! every lent byte against what the specification says of it.
 
 // Each test file uses some of these.
 #![allow(dead_code)]
@@ -60,7 +60,7 @@ fn rule(formulas: &mut Vec<Formula>, a: u8, b: u8, c: (u8, bool), d: (u8, bool))
     (at + 8) as u8
 }
 
-/// The source paper's four rules, the fourth as printed or as its words say.
+/// The paper's four rules, the fourth as printed or as its words say.
 pub fn four_rules(as_printed: bool) -> (Vec<Formula>, Vec<u8>) {
     let mut formulas = Vec::new();
     let rules = vec![
@@ -141,7 +141,7 @@ pub fn pattern(length: usize) -> Vec<u8> {
 /// Bytes lent beyond those demanded.
 pub const BEYOND: usize = 53;
 
-/// Judges, and holds every byte of work against the paper.
+/// Judges, and holds every byte of work against the specification.
 pub fn judged(design: &[u8], converter: &[u8], work_length: usize) -> Result<(), u8> {
     let mut work = pattern(work_length);
     let answer = checker::judge(design, converter, &mut work);
@@ -159,7 +159,7 @@ pub fn judged_well(design: &Design, converter: &[u8]) -> Result<(), u8> {
 }
 
 /// Searches with the demanded lengths and some bytes beyond, and holds every
-/// lent byte against the paper. A converter found is matched and keeps the rules.
+/// lent byte against the specification. A converter found is matched and keeps the rules.
 pub fn searched(design: &Design) -> Result<Vec<Record>, u8> {
     let positions = usize::try_from(positions(design)).unwrap();
     let (table_length, work_length) = (36 * positions + BEYOND, 16 * positions + BEYOND);
