@@ -26,6 +26,18 @@ pub struct Runner {
     pub second: i8,
 }
 
+impl Runner {
+    // The runner at another record, with these events delivered.
+    fn moved(mut self, next: u16, first: i8, second: i8) -> Self
+        ensures { λ r. ⌜ r ≡ record { «record» = next; first = first; second = second } ⌝ }
+    {
+        self.record = next;
+        self.first = first;
+        self.second = second;
+        self
+    }
+}
+
 // "done", or a refusal's number.
 pub enum Answer {
     Done,
@@ -130,11 +142,7 @@ fn take_first(s: &[u8], c: usize, runner: Runner, shown: [i8; 2]) -> Ticked
         if fits_events(shown, events) {
             return Ticked {
                 answer: Answer::Done,
-                runner: Runner {
-                    record: t.next,
-                    first: events[0],
-                    second: events[1],
-                },
+                runner: runner.moved(t.next, events[0], events[1]),
             };
         }
         k += 1;
