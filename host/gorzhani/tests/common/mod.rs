@@ -107,13 +107,38 @@ fn number<T>(answer: Result<T, Refused>) -> u8 {
     answer.err().map_or(0, |Refused(number)| number)
 }
 
+/// A constant of the C header.
+pub fn header(name: &str) -> usize {
+    let text = include_str!("../../../../include/gorzhani.h");
+    let value = text.lines().find_map(|line| {
+        let (left, right) = line.trim().trim_end_matches(',').split_once(" = ")?;
+        (left == name).then_some(right)
+    });
+    let value = value.unwrap_or_else(|| panic!("the header has no {name}"));
+    value.parse().unwrap_or_else(|_| panic!("{name} = {value} is no number"))
+}
+
 /// The positions of the design that these bytes spell, at most `most`.
 pub fn size(bytes: &[u8], most: usize) -> usize {
     read_design(bytes).map_or(4, |design| positions(&design).min(most as u128) as usize)
 }
 
+/// Counts the positions by both.
+pub fn positions_agrees(bytes: &[u8]) -> u8 {
+    let design = Lent::holding(bytes);
+    let answer = gorzhani::positions(design.part());
+    let other = read_design(bytes).and_then(|design| match positions(&design) {
+        count @ ..=65_536 => Ok(count as usize),
+        _ => Err(9),
+    });
+    assert!(design.untouched());
+    assert_eq!(answer.map_err(|Refused(number)| number), other, "{:?}", read_design(bytes));
+    number(answer)
+}
+
 /// Searches by both with lent buffers of these lengths.
 pub fn search_agrees(bytes: &[u8], table_length: usize, work_length: usize) -> u8 {
+    positions_agrees(bytes);
     let design = Lent::holding(bytes);
     let (mut table, mut work) = (Lent::new(table_length), Lent::new(work_length));
     let answer = gorzhani::search(design.part(), table.part_mut(), work.part_mut());
