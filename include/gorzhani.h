@@ -15,8 +15,9 @@
  * An answer below 0 is a refusal, the number negated: compare with -GORZHANI_REFUSED_NO_CONVERTER and the like. The first number that applies is answered,
  * in their order, each tried over the whole input. Any other answer is a count, or 0 for "yes" and "done".
  *
- * What is lent may be longer than needed; the bytes behind stay as they are. After a yes, 14, 15, 16 or a converter found the work that was needed is zero;
- * any other refusal changes no lent byte. */
+ * What is lent may be longer than needed; the bytes behind stay as they are. It may hold anything before the call, also bytes that were never written: a
+ * search reads some of those and tests what they say, which a memory checker may report. After a yes, 14, 15, 16 or a converter found the work that was
+ * needed is zero; any other refusal changes no lent byte. */
 #ifndef GORZHANI_H
 #define GORZHANI_H
 
