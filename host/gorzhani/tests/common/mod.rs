@@ -197,30 +197,35 @@ pub fn judge_agrees(bytes: &[u8], converter: &[u8], work_length: usize) -> u8 {
     number(answer)
 }
 
+/// A call that reads some bytes and writes others, and answers how many parts it wrote.
+type Copying<Refusal> = fn(&[u8], &mut [u8]) -> Result<usize, Refusal>;
+
+/// Calls both with a lent result of this length. A part that is written has `size` bytes.
+fn copying_agrees(
+    (library, checker): (Copying<Refused>, Copying<u8>),
+    bytes: &[u8],
+    length: usize,
+    size: usize,
+) -> u8 {
+    let lent = Lent::holding(bytes);
+    let mut result = Lent::new(length);
+    let answer = library(lent.part(), result.part_mut());
+    let mut other_result = vec![0; length];
+    let other = checker(bytes, &mut other_result);
+    assert!(lent.untouched());
+    assert_eq!(answer.map_err(|Refused(number)| number), other, "{bytes:?}");
+    assert!(result.holds(&other_result[..size * other.unwrap_or(0)]));
+    number(answer)
+}
+
 /// Writes by both to a lent result of this length.
 pub fn write_agrees(converter: &[u8], length: usize) -> u8 {
-    let lent = Lent::holding(converter);
-    let mut blocks = Lent::new(length);
-    let answer = gorzhani::write(lent.part(), blocks.part_mut());
-    let mut other_blocks = vec![0; length];
-    let other = write_blocks(converter, &mut other_blocks);
-    assert!(lent.untouched());
-    assert_eq!(answer.map_err(|Refused(number)| number), other, "{converter:?}");
-    assert!(blocks.holds(&other_blocks[..BLOCK * other.unwrap_or(0)]));
-    number(answer)
+    copying_agrees((gorzhani::write, write_blocks), converter, length, BLOCK)
 }
 
 /// Reads by both to a lent result of this length.
 pub fn read_agrees(file: &[u8], length: usize) -> u8 {
-    let lent = Lent::holding(file);
-    let mut memory = Lent::new(length);
-    let answer = gorzhani::read(lent.part(), memory.part_mut());
-    let mut other_memory = vec![0; length];
-    let other = read_blocks(file, &mut other_memory);
-    assert!(lent.untouched());
-    assert_eq!(answer.map_err(|Refused(number)| number), other, "{file:?}");
-    assert!(memory.holds(&other_memory[..RECORD * other.unwrap_or(0)]));
-    number(answer)
+    copying_agrees((gorzhani::read, read_blocks), file, length, RECORD)
 }
 
 /// One tick by both, from the same runner.
