@@ -6,8 +6,8 @@ mod common;
 mod samples;
 
 use checker::bytes::{seal, Design, Formula};
-use checker::generate::{any_design, damage, design, ruled_design, Random, Shape};
-use common::{positions_agrees, Answers};
+use checker::generate::{any_design, damage, ruled_design, Random, Shape};
+use common::{mixed_design, positions_agrees, Answers};
 use gorzhani::{Refused, CELL, DESIGN, RECORD};
 use samples::{
     handshake, next_zero_next_one, rings, ruled_handshake, state, ticking_in_turn, two_inputs,
@@ -66,12 +66,7 @@ fn sound() {
     let mut random = Random::new(701);
     let mut answers = Answers::default();
     for round in 0..20_000 {
-        let made = match round % 3 {
-            0 => any_design(&mut random),
-            1 => design(&mut random, &Shape::FULL),
-            _ => ruled_design(&mut random, &Shape { formulas: 20, rules: 5, ..Shape::SMALL }),
-        };
-        answers.count(positions_agrees(&made.to_bytes()));
+        answers.count(positions_agrees(&mixed_design(&mut random, round).to_bytes()));
     }
     answers.are(&[0, 9], 1_000);
 }

@@ -11,11 +11,8 @@ mod samples;
 use std::arch::asm;
 
 use checker::bytes::{converter_bytes, Formula};
-use checker::generate::{
-    any_converter, any_design, block_file, damage, design, loose_converter, ruled_design, script,
-    Random, Shape,
-};
-use common::{header, Answers};
+use checker::generate::{any_converter, block_file, damage, loose_converter, script, Random};
+use common::{header, mixed_design, Answers};
 use gorzhani::{Runner, BLOCK, CELL, MOST, RECORD};
 use samples::rings;
 
@@ -173,14 +170,10 @@ fn written(bytes: &mut [u8]) -> [usize; 2] {
 fn no_call_takes_more_than_the_header_says() {
     let mut random = Random::new(601);
     let mut calls = Calls::new();
-    for round in 0..6_000 {
-        let made = match round % 3 {
-            0 => any_design(&mut random),
-            1 => design(&mut random, &Shape::FULL),
-            _ => ruled_design(&mut random, &Shape::SMALL),
-        };
+    for round in 0..10_000 {
+        let made = mixed_design(&mut random, round);
         let mut bytes = made.to_bytes();
-        if round % 4 == 0 {
+        if random.once_in(2) {
             damage(&mut random, &mut bytes);
         }
         let found = calls.design(&bytes, 1 << random.below(13));

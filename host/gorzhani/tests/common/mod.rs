@@ -4,8 +4,8 @@
 // Each test file uses some of these.
 #![allow(dead_code)]
 
-use checker::bytes::{positions, read_blocks, read_design, write_blocks};
-use checker::generate::Random;
+use checker::bytes::{positions, read_blocks, read_design, write_blocks, Design};
+use checker::generate::{any_design, design, ruled_design, Random, Shape};
 use gorzhani::{Refused, Runner, BLOCK, CELL, RECORD};
 
 const GUARD: usize = 64;
@@ -63,6 +63,17 @@ struct GuardedRunner {
     before: [u8; 16],
     runner: Runner,
     after: [u8; 16],
+}
+
+/// A sound design, of another sort from round to round.
+pub fn mixed_design(random: &mut Random, round: usize) -> Design {
+    match round % 6 {
+        0 => any_design(random),
+        1 => design(random, &Shape::FULL),
+        2 => ruled_design(random, &Shape { formulas: 20, rules: 5, ..Shape::SMALL }),
+        3 => ruled_design(random, &Shape::SMALL),
+        _ => ruled_design(random, &Shape::TINY),
+    }
 }
 
 /// A length that is mostly enough, at times one short, at times more.
