@@ -1,5 +1,5 @@
 //! A safe wrapper over the proved library: what its C header asks of a caller (valid pointers, lengths that belong to them, buffers that do not overlap)
-//! is kept here by slices. A refusal is an error with its number.
+//! is kept here by slices. A refusal is an error with its number. What is lent may be longer than a call asks for; the bytes behind stay as they are.
 #![warn(missing_docs)]
 
 mod refused;
@@ -75,13 +75,14 @@ fn answer(code: i32) -> Result<usize, Refused> {
     }
 }
 
-/// The positions of a design: a search wants [`RECORD`] bytes of table and [`CELL`] bytes of work for each.
+/// Counts the positions of a design, 1 to [`MOST`], by which its search is lent memory.
 pub fn positions(design: &[u8]) -> Result<usize, Refused> {
     // SAFETY: a slice's pointer is valid for its length and not null; nothing is written.
     answer(unsafe { gorzhani_positions(design.as_ptr(), design.len()) })
 }
 
-/// Searches a converter for a design. The count of records at the front of the table, or the refusal; 16 where none exists.
+/// Searches a converter for a design: lend [`RECORD`] bytes of table and [`CELL`] bytes of work for each of its positions. The count of records at the front
+/// of the table, or the refusal, [`Refused::NO_CONVERTER`] where none exists.
 pub fn search(design: &[u8], table: &mut [u8], work: &mut [u8]) -> Result<usize, Refused> {
     // SAFETY: as above, and two `&mut` and a `&` do not overlap, nor does anybody else write them.
     answer(unsafe {
@@ -96,7 +97,7 @@ pub fn search(design: &[u8], table: &mut [u8], work: &mut [u8]) -> Result<usize,
     })
 }
 
-/// Judges a converter against a design.
+/// Judges a converter against a design: lend [`CELL`] bytes of work for each record.
 pub fn judge(design: &[u8], converter: &[u8], work: &mut [u8]) -> Result<(), Refused> {
     // SAFETY: as above; the design and the converter are only read.
     answer(unsafe {
@@ -112,7 +113,7 @@ pub fn judge(design: &[u8], converter: &[u8], work: &mut [u8]) -> Result<(), Ref
     .map(|_| ())
 }
 
-/// Writes a converter as blocks. The count of blocks.
+/// Writes a converter as blocks: lend [`BLOCK`] bytes for each 14 records or part of them. The count of blocks.
 pub fn write(converter: &[u8], blocks: &mut [u8]) -> Result<usize, Refused> {
     // SAFETY: as above.
     answer(unsafe {
@@ -120,7 +121,7 @@ pub fn write(converter: &[u8], blocks: &mut [u8]) -> Result<usize, Refused> {
     })
 }
 
-/// Reads a converter from blocks. The count of records.
+/// Reads a converter from blocks: lend [`RECORD`] bytes for each record. The count of records.
 pub fn read(blocks: &[u8], converter: &mut [u8]) -> Result<usize, Refused> {
     // SAFETY: as above.
     answer(unsafe {
@@ -128,7 +129,7 @@ pub fn read(blocks: &[u8], converter: &mut [u8]) -> Result<usize, Refused> {
     })
 }
 
-/// One tick of a converter.
+/// One tick of a converter: each side shows the event that it sends, or 0. Afterwards the runner holds the next record and the events to deliver.
 pub fn tick(converter: &[u8], runner: &mut Runner, shown: [i8; 2]) -> Result<(), Refused> {
     // SAFETY: as above; `Runner` has the layout and the alignment of the header's struct.
     answer(unsafe {

@@ -2,8 +2,6 @@
 //! over seeded inputs and the largest that there are; the lowest place that lost the pattern tells
 //! how much was taken. No call takes more than the C header says.
 
-#![cfg(target_arch = "x86_64")]
-
 mod common;
 #[path = "../../checker/tests/samples/mod.rs"]
 mod samples;
