@@ -5,8 +5,8 @@ mod common;
 
 use checker::brute::{try_all, Outcome};
 use checker::bytes::{converter_bytes, positions, seal, Design, Formula};
-use checker::generate::{any_design, damage, design, ruled_design, Random, Shape};
-use common::{about, found, judge_agrees, search_agrees, size, Answers};
+use checker::generate::{any_design, damage, ruled_design, Random, Shape};
+use common::{about, found, judge_agrees, mixed_design, search_agrees, size, Answers};
 use gorzhani::{CELL, RECORD};
 
 /// Searches with lengths that are mostly enough.
@@ -22,14 +22,8 @@ fn sound() {
     let mut random = Random::new(101);
     let mut answers = Answers::default();
     for round in 0..24_000 {
-        let made = match round % 6 {
-            0 => any_design(&mut random),
-            1 => design(&mut random, &Shape::FULL),
-            2 => ruled_design(&mut random, &Shape { formulas: 20, rules: 5, ..Shape::SMALL }),
-            3 => ruled_design(&mut random, &Shape::SMALL),
-            _ => ruled_design(&mut random, &Shape::TINY),
-        };
-        answers.count(search_about(&mut random, &made.to_bytes()));
+        let bytes = mixed_design(&mut random, round).to_bytes();
+        answers.count(search_about(&mut random, &bytes));
     }
     answers.are(&[0, 9, 12, 13, 16], 500);
 }
