@@ -17,7 +17,7 @@ use Rattle.refusals.specs.Refusals.{first-failing, design-tests, design-refusal
 use Rattle.refusals.proofs.Passing.{passed, refused-first, refused-later, none-first}
 use Rattle.refusals.proofs.CountedBytes.{accepted-counts}
 use Rattle.refusals.proofs.PositionCount.{positions-product}
-use Rattle.arena.specs.Geometry.{Accepted}
+use Rattle.refusals.specs.Counted.{Accepted}
 use Rattle.gorzhani.specs.Codes.{refusal-code}
 use Rattle.gorzhani.specs.Calls.{positions-refusal, positions-number}
 use Rattle.gorzhani.proofs.ByRefusal.{where-none, where-some}

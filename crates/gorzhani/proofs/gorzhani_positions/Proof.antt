@@ -6,7 +6,7 @@ use lib.IntN.{pos}
 use Rattle.model.specs.Positions.{positions}
 use Rattle.layout.specs.Designs.{design}
 use Rattle.refusals.proofs.CountedBytes.{accepted-counts}
-use Rattle.arena.specs.Geometry.{Accepted}
+use Rattle.refusals.specs.Counted.{Accepted}
 use Rattle.gorzhani.specs.Codes.{refusal-code}
 use Rattle.gorzhani.specs.Calls.{positions-refusal}
 use Rattle.gorzhani.proofs.Numbers.{read-back}
