@@ -1,3 +1,3 @@
--- What a reader must believe of the judge: its answer and its lent bytes; and behind them the cells in which it works.
-pub mod Rules
+-- What a reader must believe of the judge is `Judge`. Nobody has to believe `Rules`: it is what the judge's own functions promise each other.
 pub mod Judge
+pub mod Rules

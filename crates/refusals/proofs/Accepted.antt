@@ -7,7 +7,6 @@ use native.Mathlib.Omega.{arith}
 use borrow.Author.Tests.{leb-true, eqb-true, le-leb, eq-eqb}
 use lib.Dec.{lit<, leb, eqb}
 use lib.ListN.{length}
-use Rattle.model.specs.Judged.{all}
 use Rattle.model.specs.Converters.{node, edge}
 use Rattle.layout.specs.Sizes.{side-count, place-count, record-bytes, most-records}
 use Rattle.layout.specs.Bytes.{all-zero}
