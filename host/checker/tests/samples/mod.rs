@@ -104,6 +104,18 @@ pub fn next_zero_next_one() -> Vec<Formula> {
     vec![Formula::Proposition(0), Formula::Proposition(1), Formula::Next(0), Formula::Next(1)]
 }
 
+/// One input state that reads 1 to 3 and goes to the state of that number;
+/// state n has label n - 1, and each comes back to state 0 by a tick.
+pub fn hub(formulas: Vec<Formula>, rules: Vec<u8>) -> Design {
+    let hub = vec![
+        state(&[], &[(1, 1), (2, 2), (3, 3)]),
+        state(&[0], &[(0, 0)]),
+        state(&[1], &[(0, 0)]),
+        state(&[2], &[(0, 0)]),
+    ];
+    Design { sides: [vec![state(&[], &[(0, 0)])], hub], formulas, rules }
+}
+
 /// Two rings of sixteen states, each of which ticks on or reads 1 and stays.
 /// State 15 has label 0 on side 1 and label 1 on side 2. Eight formulas are
 /// kept: 2, 3, 4, 5, 6, 8, 11 and 15.
