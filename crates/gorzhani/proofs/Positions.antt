@@ -16,7 +16,7 @@ use Rattle.layout.specs.Designs.{design, side}
 use Rattle.refusals.specs.Refusals.{first-failing, design-tests, design-refusal, positions-test}
 use Rattle.refusals.proofs.Passing.{passed, refused-first, refused-later, none-first}
 use Rattle.refusals.proofs.CountedBytes.{accepted-counts}
-use Rattle.refusals.proofs.PositionCount.{positions-product}
+use Rattle.positions.proofs.PositionCount.{positions-product}
 use Rattle.refusals.specs.Counted.{Accepted}
 use Rattle.gorzhani.specs.Codes.{refusal-code}
 use Rattle.gorzhani.specs.Calls.{positions-refusal, positions-number}

@@ -14,7 +14,6 @@ use files::writer;
 use judge::Verdict;
 use layout::sizes;
 use refusals::design_tests;
-use refusals::positions;
 use runner::Answer;
 use runner::Runner;
 use search::Outcome;

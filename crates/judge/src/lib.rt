@@ -4,7 +4,7 @@ ghost use Rattle.judge.specs.Judge.{judge-refusal, Judges};
 
 mod rules;
 
-use labelling::cells;
+use fixpoints::cells;
 use layout::ranges;
 use layout::sizes;
 use refusals::converters;

@@ -9,6 +9,4 @@ pub mod FormulaTests
 pub mod Passing
 pub mod WellFormed
 pub mod ZeroBytes
-pub mod FormKinds
-pub mod PositionCount
 pub mod Accepted

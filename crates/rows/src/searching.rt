@@ -34,7 +34,7 @@ fn positions(d: &[u8]) {
     if refusal != 0 {
         return;
     }
-    let n = refusals::positions::positions_of(d);
+    let n = positions::positions_of(d);
     lines::line(b"  positions", n as u64);
 }
 
