@@ -1,9 +1,9 @@
--- `searching::positions` meets its contract: a design that isn't refused is counted.
+-- `positions` meets its contract: a design that isn't refused is counted.
 use mathlib.Core.Path.{sym, _∙_}
 use borrow.Author.Needs.{needs}
 use Rattle.refusals.proofs.CountedBytes.{accepted-counts}
-use Rattle.rows.proofs.searching.positions.Statement.{statement}
-use Rattle.rows.proofs.searching.positions.Tie as tie
+use Rattle.search_rows.proofs.positions.Statement.{statement}
+use Rattle.search_rows.proofs.positions.Tie as tie
 
 design-refusal-requires : tie.Need-design-refusal-requires
 design-refusal-requires c κs = search needs

@@ -1,4 +1,4 @@
-// Lines of output, and the rows that need no design.
+// Lines of output.
 
 // A line: the words, and a number.
 pub fn line(words: &[u8], n: u64) {
@@ -16,13 +16,4 @@ pub fn yes_or_no(words: &[u8], is: bool) {
     } else {
         io::write_all(1, b": no\n");
     }
-}
-
-// Bytes added up, wrapping at 65,536.
-pub fn checks() {
-    let block = [255u8; 512];
-    line(
-        b"check of 510 bytes of 255",
-        layout::ranges::check_of(&block, 0) as u64,
-    );
 }

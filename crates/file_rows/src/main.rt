@@ -1,8 +1,10 @@
-// Rows of the writer and the block reader. What is lent for a result is 170 everywhere at first, so that a byte that was written shows.
+// Runs the rows of the specification on the writer and the block reader. For each it writes a line: what was tried, and the answer, which is a count or the
+// number of a refusal. What is lent for a result is 170 everywhere at first, so that a byte that was written shows; a second line says whether it is as it was.
 ghost use Prim.Native.Nat.{_<_, _≤_};
 ghost use lib.ListN.{length};
-use crate::bytes;
-use crate::lines;
+use row_parts::blocks;
+use row_parts::lines;
+use row_parts::tables;
 
 // ---- the calls, with so many of the lent bytes
 
@@ -59,7 +61,7 @@ fn read(words: &[u8], file: &[u8], room: usize)
 fn changed_record(words: &[u8], at: usize, v: u8)
     requires { ⌜ at < 108 ⌝ }
 {
-    let mut c = bytes::F;
+    let mut c = tables::F;
     c[at] = v;
     write(words, &c, 512);
 }
@@ -80,19 +82,19 @@ fn writer() {
     changed_record(b"an event pair twice", 8, 1);
     changed_record(b"a next record that isn't there", 6, 3);
     changed_record(b"an unused place of a record", 35, 1);
-    write(b"F, 511 bytes lent", &bytes::F, 511);
-    write(b"F, 512 bytes lent, blocks", &bytes::F, 512);
+    write(b"F, 511 bytes lent", &tables::F, 511);
+    write(b"F, 512 bytes lent, blocks", &tables::F, 512);
 }
 
 // ---- the block reader
 
 // F five times over: fifteen records.
 fn fifteen(c: &mut [u8; 540]) {
-    layout::ranges::copy(&bytes::F, 0, c, 0, 108);
-    layout::ranges::copy(&bytes::F, 0, c, 108, 108);
-    layout::ranges::copy(&bytes::F, 0, c, 216, 108);
-    layout::ranges::copy(&bytes::F, 0, c, 324, 108);
-    layout::ranges::copy(&bytes::F, 0, c, 432, 108);
+    layout::ranges::copy(&tables::F, 0, c, 0, 108);
+    layout::ranges::copy(&tables::F, 0, c, 108, 108);
+    layout::ranges::copy(&tables::F, 0, c, 216, 108);
+    layout::ranges::copy(&tables::F, 0, c, 324, 108);
+    layout::ranges::copy(&tables::F, 0, c, 432, 108);
 }
 
 // Their file: a block of fourteen records, and one of one.
@@ -106,16 +108,17 @@ fn read_two(words: &[u8], file: &[u8; 1024], room: usize)
     read(words, file, room);
 }
 
-// The check of a block put right.
-fn seal(file: &mut [u8; 1024], at: usize)
-    requires { ⌜ at ≤ 512 ⌝ }
+// A byte changed, and the check of its block put right again where that is asked.
+fn change(file: &mut [u8; 1024], at: usize, v: u8, sealed: bool)
+    requires { ⌜ at < 1024 ⌝ }
 {
-    let sum = layout::ranges::check_of(file, at);
-    file[at + 510] = (sum % 256) as u8;
-    file[at + 511] = (sum / 256) as u8;
+    file[at] = v;
+    if sealed {
+        blocks::seal(file, 512 * (at / 512));
+    }
 }
 
-// The file with a byte changed, and the check of its block put right again where that is asked.
+// The file with a byte changed.
 fn changed_file(words: &[u8], at: usize, v: u8, sealed: bool)
     requires { ⌜ at < 1024 ⌝ }
 {
@@ -123,10 +126,7 @@ fn changed_file(words: &[u8], at: usize, v: u8, sealed: bool)
     let mut file = [0u8; 1024];
     fifteen(&mut c);
     two_blocks(&c, &mut file);
-    file[at] = v;
-    if sealed {
-        seal(&mut file, 512 * (at / 512));
-    }
+    change(&mut file, at, v, sealed);
     read_two(words, &file, 540);
 }
 
@@ -189,13 +189,13 @@ fn fifteen_back(c: &[u8; 540]) {
 
 fn round_trips() {
     let mut file = [0u8; 512];
-    back(b"F written and read back", &bytes::F, &mut file);
+    back(b"F written and read back", &tables::F, &mut file);
     let mut c = [0u8; 540];
     fifteen(&mut c);
     fifteen_back(&c);
 }
 
-pub fn rows() {
+fn main() {
     writer();
     reader();
     round_trips();
