@@ -33,6 +33,7 @@ fn zeros(words: &[u8], n: usize)
     read(words, &d, n);
 }
 
+// All of a design.
 fn whole(words: &[u8], d: &[u8; 2048]) {
     read(words, d, 2048);
 }
@@ -107,7 +108,7 @@ fn states() {
     first_state(b"a target that isn't a state", -1, 2);
 }
 
-fn bytes() {
+fn changed() {
     one_byte(b"0 states", 1, 0);
     one_byte(b"17 states", 1, 17);
     one_byte(b"255 states", 513, 255);
@@ -136,6 +137,6 @@ fn main() {
     lengths();
     states();
     two_faults();
-    bytes();
+    changed();
     formulas();
 }

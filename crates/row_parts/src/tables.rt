@@ -28,8 +28,8 @@ pub const FORK: [u8; 60] = *b"\
 
 // ---- formulas, four bytes each: the kind, two operands, 0
 
-// The paper's four rules for H, a line to a rule. AG(not p or not q or AX(r or t)) is nine formulas: not p, not q, their or, r, t, their or, AX of it, the or of
-// the third and that, and AG of all. The fourth rule ends AX(not 1 or not 2) as printed.
+// The paper's four rules for H, a line to a rule: AG(not p or not q or AX(r or t)) is the nine formulas not p, not q, their or x, r, t, their or y, AX y, x or AX y,
+// and AG of it. The fourth rule ends AX(not 1 or not 2) as printed.
 pub const PRINTED: [u8; 144] = *b"\
     \x04\0\0\0\x04\x02\0\0\x06\0\x01\0\x03\x01\0\0\x04\x03\0\0\x06\x03\x04\0\x07\x05\0\0\x06\x02\x06\0\x09\x07\0\0\
     \x04\x03\0\0\x04\x01\0\0\x06\x09\x0a\0\x03\0\0\0\x04\x02\0\0\x06\x0c\x0d\0\x07\x0e\0\0\x06\x0b\x0f\0\x09\x10\0\0\
