@@ -1,10 +1,23 @@
 /* Gorzhani: converters between a kernel table and a host table, searched, judged and run. The functions are proved in Rattle for every input.
  *
- * What the caller owes, and C cannot state: each pointer is valid for its length and not null, also where the length is 0; a buffer that is written to
- * overlaps no other buffer of the call; nobody else writes these buffers meanwhile. All else is proved: no call is undefined, whoever made the input, and
- * each bad input gets its number.
+ * The machine: x86-64 Linux, with the System V C calling convention. The archive needs memcpy and memset, from the C library or of one's own, and nothing
+ * else. It allocates nothing, asks nothing of the system and keeps nothing from call to call: calls on other buffers may run at the same time.
  *
- * A refusal with number k is answered as -k; any other answer is a count, or 0 for "yes" and "done". docs and README list the numbers. */
+ * What the caller owes, and C cannot state:
+ * - each pointer is valid for its length and not null, also where the length is 0;
+ * - the runner's pointer is aligned as struct gorzhani_runner is, to 2 bytes; every other pointer may stand anywhere;
+ * - what is written (table, work, the blocks of a write, the converter of a read, the runner) overlaps no other buffer of the call; buffers that are only
+ *   read may overlap;
+ * - nobody else writes any of these buffers meanwhile, nor reads those that are written;
+ * - the stack has room for the call (GORZHANI_SEARCH_STACK and the others below).
+ * All else is proved: no call is undefined, whoever made the input, and each bad input gets its number.
+ *
+ * An answer below 0 is a refusal, the number negated: compare with -GORZHANI_REFUSED_NO_CONVERTER and the like. The first number that applies is answered,
+ * in their order, each tried over the whole input. Any other answer is a count, or 0 for "yes" and "done".
+ *
+ * What is lent may be longer than needed; the bytes behind stay as they are. It may hold anything before the call, also bytes that were never written: a
+ * search reads some of those and tests what they say, which a memory checker may report. After a yes, 14, 15, 16 or a converter found the work that was
+ * needed is zero; any other refusal changes no lent byte. */
 #ifndef GORZHANI_H
 #define GORZHANI_H
 
@@ -15,26 +28,93 @@
 extern "C" {
 #endif
 
+/* Sizes in bytes. */
 enum {
     GORZHANI_DESIGN_BYTES = 2048,
     GORZHANI_RECORD_BYTES = 36,
     GORZHANI_BLOCK_BYTES = 512,
     GORZHANI_BLOCK_RECORDS = 14,
-    /* work bytes: so many a position (search) or a record (judge) */
+    /* work: so many a position (search) or a record (judge) */
     GORZHANI_CELL_BYTES = 16
 };
 
-/* Searches a converter for a design: lend 36 bytes of table and 16 of work for each position. Answers the number of records at the front of the table, or
- * -16 where no converter of any size exists. */
+/* The most that there may be. A table and a work of the sizes given here are enough for every design that isn't refused with 9, and the work for every
+ * converter that is judged; the blocks are enough for every converter that is written, and the table for every one that is read. */
+enum {
+    GORZHANI_MOST_POSITIONS = 65536,
+    GORZHANI_MOST_RECORDS = 65536,
+    GORZHANI_MOST_BLOCKS = 4682,
+    GORZHANI_MOST_TABLE_BYTES = 2359296,
+    GORZHANI_MOST_WORK_BYTES = 1048576,
+    GORZHANI_MOST_BLOCKS_BYTES = 2397184
+};
+
+/* The bytes of stack that a call takes at the most, its return address included, rounded up to whole KiB: the archive's frames add up to no more on any way
+ * through it, and host/gorzhani/tests/stack.rs measures calls. Of memcpy and memset only the return address is counted, since the C library's take no more.
+ * Where a program finds these two at their first call alone (lazy binding), its loader takes about 3 KiB beside at that call. */
+enum {
+    GORZHANI_POSITIONS_STACK = 1024,
+    GORZHANI_SEARCH_STACK = 18432,
+    GORZHANI_JUDGE_STACK = 1024,
+    GORZHANI_WRITE_STACK = 1024,
+    GORZHANI_READ_STACK = 1024,
+    GORZHANI_TICK_STACK = 1024
+};
+
+/* The numbers of the refusals; an answer is their negation. */
+enum {
+    /* a design isn't 2,048 bytes, or a converter file is empty, no multiple of 512 or over 4,682 blocks */
+    GORZHANI_REFUSED_LENGTH = 1,
+    /* a block's check is wrong */
+    GORZHANI_REFUSED_CHECK = 2,
+    /* a block's kind or first record is wrong */
+    GORZHANI_REFUSED_HEADER = 3,
+    /* a block's record count is outside its limits, or a converter file has over 65,536 records */
+    GORZHANI_REFUSED_COUNT = 4,
+    /* a state has no transition or over 8, an event outside -63 to 63 or twice, or a target that isn't a state */
+    GORZHANI_REFUSED_TRANSITIONS = 5,
+    /* a state is neither input, output-only nor delayed */
+    GORZHANI_REFUSED_STATE_KIND = 6,
+    /* a formula has an unknown kind, an operand not lower or a proposition over 15, or a rule names no formula */
+    GORZHANI_REFUSED_FORMULA = 7,
+    /* an unused byte outside converter records isn't zero */
+    GORZHANI_REFUSED_UNUSED_BYTE = 8,
+    /* a design has over 65,536 positions */
+    GORZHANI_REFUSED_POSITIONS = 9,
+    /* a converter in memory is empty, no multiple of 36 or over 65,536 records */
+    GORZHANI_REFUSED_CONVERTER_LENGTH = 10,
+    /* a converter record has a side state over 15, a count outside 1 to 8, an event outside -63 to 63, an event pair twice, a next record that isn't there,
+     * or an unused byte that isn't zero */
+    GORZHANI_REFUSED_RECORD = 11,
+    /* the lent result is too short */
+    GORZHANI_REFUSED_SHORT_RESULT = 12,
+    /* the lent work is too short */
+    GORZHANI_REFUSED_SHORT_WORK = 13,
+    /* the converter isn't matched to the sides */
+    GORZHANI_REFUSED_UNMATCHED = 14,
+    /* some rule doesn't hold */
+    GORZHANI_REFUSED_RULE = 15,
+    /* no converter exists, of any size */
+    GORZHANI_REFUSED_NO_CONVERTER = 16,
+    /* the runner's record isn't there, a shown event is above 0 or below -63, or no transition fits */
+    GORZHANI_REFUSED_TICK = 17
+};
+
+/* Counts the positions of a design, by which its search is lent memory. Answers the count, 1 to 65,536, or refuses with 1 to 9. */
+int32_t gorzhani_positions(const uint8_t *design, size_t design_len);
+
+/* Searches a converter for a design: lend 36 bytes of table and 16 of work for each position. Answers the number of records, 36 bytes each, that stand at
+ * the front of the table, or refuses with 1 to 9, 12, 13, or 16 where no converter of any size exists. */
 int32_t gorzhani_search(const uint8_t *design, size_t design_len, uint8_t *table, size_t table_len, uint8_t *work, size_t work_len);
 
-/* Judges a converter against a design: lend 16 bytes of work for each record. 0 means that it is matched and keeps every rule on every path. */
+/* Judges a converter against a design: lend 16 bytes of work for each record. Answers 0 where the converter is matched and keeps every rule on every path,
+ * or refuses with 1 to 8, 10, 11, 13 to 15. */
 int32_t gorzhani_judge(const uint8_t *design, size_t design_len, const uint8_t *converter, size_t converter_len, uint8_t *work, size_t work_len);
 
-/* Writes a converter as blocks of 512 bytes, 14 records each. Answers the number of blocks. */
+/* Writes a converter as blocks of 14 records: lend 512 bytes for each 14 records or part of them. Answers the number of blocks, or refuses with 10 to 12. */
 int32_t gorzhani_write(const uint8_t *converter, size_t converter_len, uint8_t *blocks, size_t blocks_len);
 
-/* Reads a converter from blocks. Answers the number of records. */
+/* Reads a converter from blocks: lend 36 bytes for each record. Answers the number of records, or refuses with 1 to 4, 8, 11, 12. */
 int32_t gorzhani_read(const uint8_t *blocks, size_t blocks_len, uint8_t *converter, size_t converter_len);
 
 /* The record that a runner stands at and the events last delivered; all zero before the first tick. */
@@ -43,7 +123,8 @@ struct gorzhani_runner {
     int8_t first, second;
 };
 
-/* One tick: each side shows the event that it sends, or 0. Afterwards the runner holds the next record and the events to deliver. */
+/* One tick: each side shows the event that it sends, or 0. Afterwards the runner holds the next record and the events to deliver. Answers 0, or refuses with
+ * 10, 11, 17; the runner is then as it was. Only the record that the runner stands at is tried for 11. */
 int32_t gorzhani_tick(const uint8_t *converter, size_t converter_len, struct gorzhani_runner *runner, int8_t first, int8_t second);
 
 #ifdef __cplusplus

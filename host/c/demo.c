@@ -1,8 +1,11 @@
 /* From a design to ticks, over the C header alone: the handshake pair of the README's example with no rules. Prints what each call answered. */
 #include <stdio.h>
+#include <stdlib.h>
 #include <string.h>
 
-#include "../../include/gorzhani.h"
+#include "gorzhani.h"
+
+_Static_assert(sizeof(struct gorzhani_runner) == 4 && _Alignof(struct gorzhani_runner) == 2, "a runner has 4 bytes and is aligned to 2");
 
 static uint8_t design[GORZHANI_DESIGN_BYTES];
 
@@ -24,8 +27,18 @@ static void seal(int block, int count) {
     at[511] = (uint8_t)(sum >> 8 & 255);
 }
 
+static uint8_t *lend(size_t size) {
+    uint8_t *bytes = malloc(size);
+    if (bytes == NULL) exit(1);
+    return bytes;
+}
+
+/* Whether a call declined with this number. */
+static const char *declined(int32_t answer, int number) {
+    return answer == -number ? "refused" : "another answer";
+}
+
 int main(void) {
-    static uint8_t table[GORZHANI_RECORD_BYTES * 4], work[GORZHANI_CELL_BYTES * 4], blocks[GORZHANI_BLOCK_BYTES], again[sizeof table];
     const int8_t s0[] = {0, 0, -1, 1}, s1[] = {0, 1, -2, 0}, t0[] = {0, 0, 1, 1}, t1[] = {2, 0};
     state(0, 0, 1 << 0, 2, s0);
     state(0, 1, 1 << 1, 2, s1);
@@ -36,21 +49,35 @@ int main(void) {
     seal(2, 0);
     seal(3, 0);
 
-    int32_t records = gorzhani_search(design, sizeof design, table, sizeof table, work, sizeof work);
-    printf("search %s\n", records > 0 ? "found" : "refused");
+    int32_t positions = gorzhani_positions(design, sizeof design);
+    printf("positions %d\n", (int)positions);
+    if (positions <= 0) return 1;
+    size_t table_len = GORZHANI_RECORD_BYTES * (size_t)positions, work_len = GORZHANI_CELL_BYTES * (size_t)positions;
+    uint8_t *table = lend(table_len), *work = lend(work_len);
+
+    int32_t records = gorzhani_search(design, sizeof design, table, table_len, work, work_len);
+    printf("search %s\n", records > 0 ? "found" : records == -GORZHANI_REFUSED_NO_CONVERTER ? "found that none exists" : "refused");
     if (records <= 0) return 1;
-    size_t size = (size_t)records * GORZHANI_RECORD_BYTES;
-    printf("judge %d\n", (int)gorzhani_judge(design, sizeof design, table, size, work, sizeof work));
-    int32_t count = gorzhani_write(table, size, blocks, sizeof blocks);
-    printf("write %d\n", (int)count);
-    int32_t back = gorzhani_read(blocks, sizeof blocks, again, sizeof again);
+    size_t size = GORZHANI_RECORD_BYTES * (size_t)records;
+    printf("judge %d\n", (int)gorzhani_judge(design, sizeof design, table, size, work, work_len));
+
+    size_t blocks_len = GORZHANI_BLOCK_BYTES * (((size_t)records + GORZHANI_BLOCK_RECORDS - 1) / GORZHANI_BLOCK_RECORDS);
+    uint8_t *blocks = lend(blocks_len), *again = lend(size);
+    printf("write %d\n", (int)gorzhani_write(table, size, blocks, blocks_len));
+    int32_t back = gorzhani_read(blocks, blocks_len, again, size);
     printf("read %s\n", back == records && memcmp(table, again, size) == 0 ? "the same" : "another");
 
     /* The kernel waits, sends 1, waits, sends 2; the host only reads. */
     struct gorzhani_runner runner = {0, 0, 0};
     const int8_t shown[] = {0, -1, 0, -2};
     for (size_t k = 0; k < sizeof shown; k++) printf("tick %d\n", (int)gorzhani_tick(table, size, &runner, shown[k], 0));
-    printf("tick out of turn %d\n", (int)gorzhani_tick(table, size, &runner, -9, 0));
-    printf("short design %d\n", (int)gorzhani_search(design, 2047, table, sizeof table, work, sizeof work));
+
+    printf("tick out of turn: %s\n", declined(gorzhani_tick(table, size, &runner, -9, 0), GORZHANI_REFUSED_TICK));
+    printf("short design: %s\n", declined(gorzhani_positions(design, sizeof design - 1), GORZHANI_REFUSED_LENGTH));
+    printf("short table: %s\n", declined(gorzhani_search(design, sizeof design, table, table_len - 1, work, work_len), GORZHANI_REFUSED_SHORT_RESULT));
+    free(again);
+    free(blocks);
+    free(work);
+    free(table);
     return 0;
 }

@@ -1,10 +1,18 @@
-//! Links the proved library. `rt staticlib export` writes it below the repository's target folder.
+//! Links the proved library, which `rt staticlib gorzhani` writes below the repository's target folder.
 use std::path::Path;
 
 fn main() {
     let here = std::env::var("CARGO_MANIFEST_DIR").expect("cargo sets the manifest's folder");
-    let library = Path::new(&here).join("../../target/staticlib");
-    println!("cargo:rustc-link-search=native={}", library.display());
-    println!("cargo:rustc-link-lib=static=export");
-    println!("cargo:rerun-if-changed={}", library.join("libexport.a").display());
+    let folder = Path::new(&here).join("../../target/staticlib");
+    let archive = folder.join("libgorzhani.a");
+    println!("cargo::rerun-if-changed={}", archive.display());
+    if !archive.is_file() {
+        println!(
+            "cargo::error=the proved library isn't there: `rt staticlib gorzhani`, from the \
+             repository's root, writes target/staticlib/libgorzhani.a"
+        );
+        return;
+    }
+    println!("cargo::rustc-link-search=native={}", folder.display());
+    println!("cargo::rustc-link-lib=static=gorzhani");
 }

@@ -6,18 +6,19 @@ use Prim.Native.Nat.{ℕ, _+_, _*_, _≤_}
 use native.Mathlib.Omega.{arith}
 use lib.ListN.{length, take}
 use Rattle.model.specs.Designs.{Works}
-use Rattle.layout.specs.declared.answers.Written.{Written}
-use Rattle.layout.specs.declared.answers.Written.the-variants.{Blocks}
+use Rattle.files.specs.declared.answers.Written.{Written}
+use Rattle.files.specs.declared.answers.Written.the-variants.{Blocks}
 use Rattle.layout.specs.Sizes.{record-bytes, block-bytes}
 use Rattle.layout.specs.Bytes.{put}
 use Rattle.layout.specs.Designs.{design}
 use Rattle.layout.specs.Converters.{records, converter}
-use Rattle.layout.specs.Files.{file-records, blocks-for, written}
-use Rattle.layout.specs.Refusals.{first-failing, file-tests}
+use Rattle.files.specs.Files.{file-records, blocks-for, written}
+use Rattle.refusals.specs.Refusals.{first-failing}
+use Rattle.files.specs.FileRefusals.{file-tests}
 use Rattle.layout.proofs.Put.{take-put}
-use Rattle.layout.proofs.Accepted.{accepted}
-use Rattle.layout.proofs.WrittenRead.{length-written}
-use Rattle.layout.proofs.RoundTrip.{written-passes, written-records}
+use Rattle.refusals.proofs.Accepted.{accepted}
+use Rattle.files.proofs.WrittenRead.{length-written}
+use Rattle.files.proofs.RoundTrip.{written-passes, written-records}
 use Rattle.search.proofs.Answers.{found-in}
 use Rattle.convert.specs.Convert.{convert-blocks, Converts}
 use Rattle.convert.proofs.Converting.{found-then, blocks-fit}

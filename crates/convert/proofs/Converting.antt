@@ -4,15 +4,15 @@ use mathlib.Core.List.{List}
 use Prim.Native.Nat.{ℕ, _*_, _≤_}
 use native.Mathlib.Omega.{arith}
 use lib.ListN.{length, take}
-use Rattle.layout.specs.declared.answers.Written.{Written}
-use Rattle.layout.specs.declared.answers.Written.the-variants as written-as
+use Rattle.files.specs.declared.answers.Written.{Written}
+use Rattle.files.specs.declared.answers.Written.the-variants as written-as
 use Rattle.layout.specs.Sizes.{record-bytes, block-bytes}
 use Rattle.layout.specs.Converters.{records}
-use Rattle.layout.specs.Files.{blocks-for}
-use Rattle.layout.specs.Refusals.{write-refusal}
-use Rattle.layout.specs.Answers.{Writes}
-use Rattle.layout.proofs.Accepted.{write-accepts}
-use Rattle.layout.proofs.Outcomes.{write-does}
+use Rattle.files.specs.Files.{blocks-for}
+use Rattle.files.specs.FileRefusals.{write-refusal}
+use Rattle.files.specs.Answers.{Writes}
+use Rattle.files.proofs.AcceptedWrites.{write-accepts}
+use Rattle.files.proofs.Outcomes.{write-does}
 use Rattle.search.specs.declared.Outcome.{Outcome}
 use Rattle.search.specs.declared.Outcome.the-variants.{Found, Refused}
 use Rattle.search.specs.Search.{Searches}

@@ -1,13 +1,13 @@
--- 01, "The program": from the bytes of a design to the blocks of the converter that a search finds, or to the number of a refusal.
+-- Specification, "The program": from the bytes of a design to the blocks of the converter that a search finds, or to the number of a refusal.
 use mathlib.Core.Path.{_≡_}
 use mathlib.Core.List.{List}
 use Prim.Native.Nat.{ℕ, _*_}
 use lib.ListN.{take}
-use Rattle.layout.specs.declared.answers.Written.{Written}
-use Rattle.layout.specs.declared.answers.Written.the-variants as written-as
+use Rattle.files.specs.declared.answers.Written.{Written}
+use Rattle.files.specs.declared.answers.Written.the-variants as written-as
 use Rattle.layout.specs.Sizes.{record-bytes}
 use Rattle.layout.specs.Bytes.{put}
-use Rattle.layout.specs.Files.{blocks-for, written}
+use Rattle.files.specs.Files.{blocks-for, written}
 use Rattle.search.specs.declared.Outcome.{Outcome}
 use Rattle.search.specs.declared.Outcome.the-variants.{Found, Refused}
 use Rattle.search.specs.Search.{Searches}

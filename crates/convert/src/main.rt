@@ -3,10 +3,10 @@ ghost use Prim.Native.Nat.{_*_, _≤_};
 ghost use lib.ListN.{length};
 ghost use Rattle.layout.specs.Sizes.{block-bytes};
 ghost use Rattle.layout.specs.Converters.{records};
-ghost use Rattle.layout.specs.Files.{blocks-for};
+ghost use Rattle.files.specs.Files.{blocks-for};
 ghost use Rattle.convert.specs.Convert.{Converts};
-use layout::answers::Written;
-use layout::files;
+use files::answers::Written;
+use files::writer;
 use layout::sizes;
 use search::Outcome;
 
@@ -19,7 +19,7 @@ fn convert(design: &[u8], table: &mut [u8], work: &mut [u8], blocks: &mut [u8]) 
     match outcome {
         Outcome::Found(n) => {
             let size = sizes::RECORD_BYTES * (n as usize);
-            files::write(&table[..size], blocks)
+            writer::write(&table[..size], blocks)
         }
         Outcome::Refused(k) => Written::Refused(k),
     }

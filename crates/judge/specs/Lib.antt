@@ -1,11 +1,3 @@
--- What a reader must believe of the judge: its answer and its lent bytes; and behind them the cells in which it works.
-pub mod Cells
-pub mod Graph
-pub mod Order
-pub mod Sweeps
-pub mod Until
-pub mod Always
-pub mod Labelling
-pub mod Matched
-pub mod Rules
+-- What a reader must believe of the judge is `Judge`. Nobody has to believe `Rules`: it is what the judge's own functions promise each other.
 pub mod Judge
+pub mod Rules

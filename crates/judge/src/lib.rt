@@ -2,19 +2,13 @@
 ghost use mathlib.Core.Path.{_≡_};
 ghost use Rattle.judge.specs.Judge.{judge-refusal, Judges};
 
-mod always;
-mod cells;
-mod graph;
-mod labels;
-mod matched;
-mod order;
 mod rules;
-mod sweeps;
-mod until;
 
-use layout::converters;
-use layout::design_tests;
+use fixpoints::cells;
 use layout::ranges;
+use layout::sizes;
+use refusals::converters;
+use refusals::design_tests;
 
 // Yes, or a refusal's number.
 pub enum Verdict {
@@ -34,7 +28,7 @@ fn judge_refusal(design: &[u8], converter: &[u8], room: usize) -> u8
     if of_converter != 0 {
         return of_converter;
     }
-    if room < cells::CELL_BYTES * converters::count(converter) {
+    if room < sizes::CELL_BYTES * converters::count(converter) {
         return 13;
     }
     0
@@ -49,7 +43,7 @@ pub fn judge(design: &[u8], converter: &[u8], work: &mut [u8]) -> Verdict
         return Verdict::Refused(refusal);
     }
     let found = rules::verdict(design, converter, work);
-    ranges::fill(work, 0, cells::CELL_BYTES * converters::count(converter), 0);
+    ranges::fill(work, 0, sizes::CELL_BYTES * converters::count(converter), 0);
     if found != 0 {
         return Verdict::Refused(found);
     }

@@ -1,12 +1,7 @@
--- Two theorems to read first: `WellFormed`, a design that passes tests 1 to 8 is well formed in the model's sense; and `RoundTrip`, a converter that is
--- written is read back the same, and only such files are read. The rest is what proofs of functions cite.
+-- Laws of bytes and of the records by value, which proofs of functions here and above cite.
 pub mod Tables
 pub mod AnyOf
-pub mod CountedBytes
-pub mod DesignBlocks
 pub mod DesignBytes
-pub mod DesignFormulas
-pub mod DesignUnused
 pub mod JointLaws
 pub mod JointMoves
 pub mod KindTests
@@ -17,30 +12,7 @@ pub mod ShowDigits
 pub mod SignedBytes
 pub mod StateMoves
 pub mod RecordBytes
-pub mod StateRecords
-pub mod StateTests
 pub mod FormulaRecords
-pub mod FormulaTests
-pub mod Passing
-pub mod WellFormed
-pub mod ZeroBytes
-pub mod FormKinds
-pub mod PositionCount
 pub mod ConverterBytes
 pub mod Nodes
 pub mod Made
-pub mod Accepted
-pub mod Sealed
-pub mod SealedBytes
-pub mod WrittenFile
-pub mod Outcomes
-pub mod FileSizes
-pub mod BlockTests
-pub mod Earlier
-pub mod FileTests
-pub mod Agree
-pub mod FileRecords
-pub mod AcceptedFiles
-pub mod WrittenRead
-pub mod ReadWritten
-pub mod RoundTrip

@@ -1,4 +1,5 @@
--- 01, "Bytes": a block, 512 bytes: kind, record count, number of its first record (16 bits), records from byte 4, and in bytes 510 and 511 the check.
+-- Specification, "Bytes": a block, 512 bytes: kind, record count, number of its first record (16 bits), records from byte 4, and in bytes 510 and 511 the
+-- check.
 use mathlib.Core.List.{List, [], _∷_, _++_}
 use Prim.Native.Nat.{ℕ, _+_, _-_, _*_}
 use lib.ListN.{length, replicate}

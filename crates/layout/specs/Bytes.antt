@@ -1,4 +1,5 @@
--- 01, "Bytes" and "Events and states": bytes are a list of numbers. 16-bit numbers are low byte first; an event is one signed byte, two's complement.
+-- Specification, "Bytes" and "Events and states": bytes are a list of numbers. 16-bit numbers are low byte first; an event is one signed byte, two's
+-- complement.
 use mathlib.Core.Bool.{Bool, cond}
 use mathlib.Core.List.{List, [], _∷_, _++_}
 use Prim.Native.Nat.{ℕ, _+_, _-_, _*_, _/_, _%_}

@@ -1,4 +1,4 @@
--- 01, "Bytes": from the 2,048 bytes of a design to the model's `Design`. What is refused stands for some design too.
+-- Specification, "Bytes": from the 2,048 bytes of a design to the model's `Design`. What is refused stands for some design too.
 use mathlib.Core.List.{List, [], map}
 use Prim.Native.Nat.{ℕ}
 use lib.ListN.{getD}

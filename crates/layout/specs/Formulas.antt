@@ -1,4 +1,4 @@
--- 01, "Bytes": a formula record, 4 bytes: kind, a, b, 0. An absent operand is 0. A rule record is 1 byte, a formula number.
+-- Specification, "Bytes": a formula record, 4 bytes: kind, a, b, 0. An absent operand is 0. A rule record is 1 byte, a formula number.
 use mathlib.Core.Bool.{Bool, _&&_}
 use mathlib.Core.List.{List, [], _∷_}
 use Prim.Native.Nat.{ℕ, _+_}

@@ -1,4 +1,4 @@
--- What a reader must believe of bytes, in the order in which 01 tells it.
+-- What a reader must believe of bytes, in the order in which the specification tells it.
 pub mod Sizes
 pub mod Tables
 pub mod Bytes
@@ -10,8 +10,4 @@ pub mod Blocks
 pub mod Designs
 pub mod Joint
 pub mod Converters
-pub mod Files
 pub mod Tests
-pub mod Refusals
-pub mod Counted
-pub mod Answers

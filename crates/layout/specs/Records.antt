@@ -1,4 +1,4 @@
--- 01, "Bytes": a converter record, 36 bytes: state of side 1, state of side 2, count, 0, then eight times (event for side 1, event for side 2, next
+-- Specification, "Bytes": a converter record, 36 bytes: state of side 1, state of side 2, count, 0, then eight times (event for side 1, event for side 2, next
 -- record as 16 bits). And what it is to add a transition to a record.
 use mathlib.Core.Bool.{Bool, not, cond}
 use mathlib.Core.List.{List, [], _∷_, _++_, flatten}
@@ -54,7 +54,7 @@ places-to r = flatten (table place-count (λ k. transition-to (getD (r .places) 
 abbrev pub record-to : Record → List ℕ
 record-to r = header-to r ++ places-to r
 
--- ---- "at least one transition, and no event pair twice"
+-- ---- at least one transition, and no event pair twice
 -- a transition that names no next record and no event: what stands in a place that is not used
 abbrev pub unused-transition : Transition
 unused-transition = record { events = table side-count (λ i. event-of 0); next = 0 }

@@ -1,4 +1,4 @@
--- 01, "Bytes" and "When a call declines": every size and every limit, in one place.
+-- Specification, "Bytes" and "When a call declines": every size and every limit, in one place.
 use Prim.Native.Nat.{ℕ}
 
 -- ---- what a design has
@@ -29,6 +29,10 @@ last-event = 63
 -- the search takes a design with at most so many positions
 abbrev pub most-positions : ℕ
 most-positions = 65536
+
+-- lent work: so many bytes for each position of a search and for each record that is judged
+abbrev pub cell-bytes : ℕ
+cell-bytes = 16
 
 -- ---- records: their bytes, where a record with places has its count and its places, and the bytes of a place
 abbrev pub state-bytes : ℕ

@@ -1,4 +1,4 @@
--- 01, "Bytes": a state record, 20 bytes: label word (2), transition count, 0, eight times (event, target).
+-- Specification, "Bytes": a state record, 20 bytes: label word (2), transition count, 0, eight times (event, target).
 use mathlib.Core.List.{List}
 use Prim.Native.Nat.{ℕ, _+_, _*_}
 use lib.ListN.{getD}

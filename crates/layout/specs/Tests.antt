@@ -1,4 +1,4 @@
--- 01, "When a call declines": refusals 5, 6, 7 and 11 as tests of the model's states, formulas and converter states. (`proofs/WellFormed` shows that
+-- Specification, "When a call declines": refusals 5, 6, 7 and 11 as tests of the model's states, formulas and converter states. (`proofs/WellFormed` shows that
 -- they are the model's predicates.)
 use mathlib.Core.Bool.{Bool, true, not, _&&_, _||_}
 use mathlib.Core.List.{List}

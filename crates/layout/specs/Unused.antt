@@ -1,4 +1,4 @@
--- 01, "Bytes": "Places and bytes not used are zero." The four layouts of a record, their sizes, and the unused bytes of a record of each.
+-- Specification, "Bytes": places and bytes not used are zero. The four layouts of a record, their sizes, and the unused bytes of a record of each.
 use mathlib.Core.List.{List, [], _∷_}
 use Prim.Native.Nat.{ℕ, _+_, _-_, _*_}
 use Rattle.layout.specs.Sizes.{place-count, state-bytes, formula-bytes, rule-bytes, record-bytes, count-at, places-at, gap-at, move-bytes, transition-bytes}

@@ -1,17 +1,10 @@
-// Bytes: designs, converters and blocks, with every refusal in its order. Offsets stand here and nowhere above.
-pub mod answers;
-pub mod blocks;
-pub mod converters;
-pub mod design_tests;
+// Bytes: words, events, and the records of designs and of converters by value. Offsets stand here and nowhere above.
 pub mod designs;
 pub mod events;
-pub mod files;
 pub mod formulas;
 pub mod joint;
-pub mod positions;
 pub mod ranges;
 pub mod records;
 pub mod sizes;
-pub mod state_tests;
 pub mod states;
 pub mod words;

@@ -5,17 +5,7 @@ ghost use lib.ListN.{length};
 ghost use Rattle.model.specs.Judged.{same-events};
 ghost use Rattle.layout.specs.Sizes.{place-count, places-at, record-bytes, transition-bytes};
 ghost use Rattle.layout.specs.Bytes.{put};
-ghost use Rattle.layout.specs.Records.{
-  transition-at,
-  record-at,
-  transition-to,
-  header-to,
-  places-to,
-  record-to,
-  named,
-  present,
-  added,
-};
+ghost use Rattle.layout.specs.Records.{transition-at, record-at, transition-to, header-to, places-to, record-to, named, present, added};
 use crate::events;
 use crate::sizes;
 use crate::words;

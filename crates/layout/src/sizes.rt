@@ -13,14 +13,16 @@ pub const LAST_PROPOSITION: u8 = 15;
 // Transition places of a state, and of a converter record.
 pub const PLACES: usize = 8;
 
-pub const MOST_POSITIONS: u32 = 65536;
+// The search takes a design with at most so many positions.
+pub const MOST_POSITIONS: usize = 65536;
+
+// Lent work: so many bytes for each position of a search and for each record that is judged.
+pub const CELL_BYTES: usize = 16;
 
 // Records: their bytes, where a record with places has its count, its unused byte and its places, and the bytes of a place.
 pub const STATE_BYTES: usize = 20;
 
 pub const FORMULA_BYTES: usize = 4;
-
-pub const RULE_BYTES: usize = 1;
 
 pub const RECORD_BYTES: usize = 36;
 
@@ -53,8 +55,6 @@ pub const DESIGN_BYTES: usize = 2048;
 pub const CONVERTER_KIND: u8 = 5;
 
 pub const BLOCK_RECORDS: usize = 14;
-
-pub const BLOCK_RECORD_BYTES: usize = 504;
 
 pub const MOST_RECORDS: usize = 65536;
 

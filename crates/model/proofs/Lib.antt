@@ -1,5 +1,5 @@
 -- The theorems. A visitor reads first: `Judged` (the judge's answer is the path meaning), `Solved` (the method decides), `Runs` (every run is right),
--- `Maps` (ACTL between systems) and `Rows` (the starred rows of 01).
+-- `Maps` (ACTL between systems) and `Rows` (the starred rows of the specification).
 
 -- tests, lists and numbers
 pub mod Bools

@@ -82,7 +82,7 @@ pub joint-allowed : {Ss : List Side} {ss : List ℕ} {es : List Event} {ts : Lis
 joint-allowed nil = tt
 joint-allowed (cons {S = S} {s = s} {e = e} {t = t} i r) = (move-allowed (state S s) e t i, joint-allowed r)
 
--- a joint move's events are delivered as 01 says, to sides that show what it shows
+-- a joint move's events are delivered as the specification says, to sides that show what it shows
 pub joint-delivered : {Ss : List Side} {ss : List ℕ} {es : List Event} {ts : List ℕ} → Moves Ss ss es ts → AllDelivered Ss ss (shows es) es
 joint-delivered nil = tt
 joint-delivered (cons {S = S} {s = s} {e = e} {t = t} i r) = (move-delivered (state S s) e t i, joint-delivered r)

@@ -1,4 +1,4 @@
--- Theorem 6: the starred rows of 01 are true. One test computes on the whole table, and a row that passes it says what `Meaning` says.
+-- Theorem 6: the starred rows of the specification are true. One test computes on the whole table, and a row that passes it says what `Meaning` says.
 use mathlib.Core.Path.{_≡_, refl, subst⁻¹}
 use mathlib.Core.Bool.{Bool, true, false, not, _&&_}
 use mathlib.Core.List.{List, [], _∷_, List·Memᴰ as In}

@@ -1,5 +1,5 @@
--- Theorem 3: of every run of a matched converter what 01 says under "The tick" is true. One tick is right wherever the runner names the states of the
--- plain sides, and it leaves the runner so; the list of calls follows by induction.
+-- Theorem 3: of every run of a matched converter what the specification says under "The tick" is true. One tick is right wherever the runner names the states
+-- of the plain sides, and it leaves the runner so; the list of calls follows by induction.
 use mathlib.Core.Path.{_≡_, refl, sym, ap, subst, subst⁻¹, _∙_}
 use mathlib.Core.Logic.{_⊎_, inl, inr, ⊎-elim}
 use mathlib.Core.List.{List, [], _∷_}

@@ -103,7 +103,7 @@ module _ (D : Design) (wf : WellFormed D) where
   abbrev all-places : List (Position ℕ)
   all-places = places (D .sides) ms (U .count)
 
-  -- as many as 01 counts
+  -- as many as the specification counts
   places-count : length all-places ≡ positions D
   unfolding positions
   places-count =

@@ -30,7 +30,7 @@ any-unsent [] h t = t
 any-unsent (x ∷ xs) h t =
     ⊎-elim (λ (a : T (sent (x .event))). T-not (sent (x .event)) (h x (here refl)) a) (λ (a : T (any-sent xs)). any-unsent xs (λ m i. h m (there i)) a) (or-either (sent (x .event)) (any-sent xs) t)
 
--- ---- each of 01's three kinds is what `kind` says
+-- ---- each of the specification's three kinds is what `kind` says
 pub kind-input : (q : State) → IsInput q → kind q ≡ input
 unfolding kind
 kind-input q h = ap (λ (b : Bool). cond b (cond (eqb (length (q .moves)) 1) output-only delayed) input) (T-false (any-sent (q .moves)) (any-unsent (q .moves) h))

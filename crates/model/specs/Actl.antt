@@ -1,4 +1,4 @@
--- 01, "Formulas": ACTL and its path meaning (Clarke, Emerson), over infinite paths of a transition system.
+-- Specification, "Formulas": ACTL and its path meaning (Clarke, Emerson), over infinite paths of a transition system.
 use mathlib.Core.Path.{_≡_}
 use mathlib.Core.Bool.{Bool, not}
 use mathlib.Core.Logic.{_⊎_}

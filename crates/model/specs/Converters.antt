@@ -1,4 +1,4 @@
--- 01, "What a converter may do": a converter is any finite list of states with any number of transitions;
+-- Specification, "What a converter may do": a converter is any finite list of states with any number of transitions;
 -- which ones are matched to the sides.
 use mathlib.Core.Path.{_≡_}
 use mathlib.Core.Bool.{Bool, true, false, cond}
@@ -9,12 +9,12 @@ use Rattle.model.specs.Events.{Event, duals, shows}
 use Rattle.model.specs.Sides.{Side, Kind, input, output-only, delayed}
 use Rattle.model.specs.Joined.{Names, zeros, kinds-of, JointMove}
 
--- 01: the transition of a converter state. An event for each side, and the number of the next converter state.
+-- The specification's transition of a converter state: an event for each side, and the number of the next converter state.
 pub record Edge : Type 0 where
   pub events : List Event
   pub next : ℕ
 
--- 01: a converter state. The side states that it names, and its transitions.
+-- The specification's converter state: the side states that it names, and its transitions.
 pub record Node : Type 0 where
   pub names : List ℕ
   pub edges : List Edge
@@ -60,7 +60,7 @@ any-delayed (input ∷ ks) = any-delayed ks
 any-delayed (output-only ∷ ks) = any-delayed ks
 any-delayed (delayed ∷ ks) = true
 
--- 01 has this for two sides: no side input; one input and one delayed; otherwise (`proofs/TwoSides`).
+-- The specification has this for two sides: no side input; one input and one delayed; otherwise (`proofs/TwoSides`).
 unfoldable pub duty : List Kind → Duty
 duty ks = cond (any-input ks) (cond (any-delayed ks) one-each some) every
 

@@ -16,14 +16,14 @@ pub record Design : Type 0 where
   pub forms : List Form
   pub rules : List ℕ
 
--- Refusals 5 to 7, and 1 to 16 states a side (refusal 4); 01's limits on the number of formulas and rules aren't needed here.
+-- Refusals 5 to 7, and 1 to 16 states a side (refusal 4); the specification's limits on the number of formulas and rules aren't needed here.
 pub record WellFormed (D : Design) : Type 0 where
   pub each-side : (S : Side) → In S (D .sides) → WellFormedSide S
   pub lower : Lower (D .forms)
   pub propositions : Propositions (D .forms)
   pub rules-there : (r : ℕ) → In r (D .rules) → r < length (D .forms)
 
--- ---- the lock step of 000, Definition 6
+-- ---- the lock step of the paper's Definition 6
 pub record Together : Type 0 where
   pub at : ℕ
   pub sides : List ℕ

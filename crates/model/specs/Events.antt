@@ -1,4 +1,4 @@
--- 01, "Events and states": an event and its dual. 0 is the tick, n above 0 is read, -n is sent.
+-- Specification, "Events and states": an event and its dual. 0 is the tick, n above 0 is read, -n is sent.
 use mathlib.Core.Bool.{Bool, true, false}
 use mathlib.Core.List.{List, map}
 use Prim.Native.Nat.{_≤_}
@@ -20,7 +20,7 @@ abbrev pub sent : Event → Bool
 sent (pos n) = false
 sent (negsuc n) = true
 
--- 000, Definition 3: the dual of an event is its negation
+-- The paper's Definition 3: the dual of an event is its negation
 abbrev pub dual : Event → Event
 dual e = negℤ e
 

@@ -1,10 +1,10 @@
--- 01, "Formulas": numbered formulas, each made from formulas with lower numbers.
+-- Specification, "Formulas": numbered formulas, each made from formulas with lower numbers.
 use mathlib.Core.List.{List, [], _∷_, _++_}
 use Prim.Native.Nat.{ℕ, _≤_, _<_}
 use lib.ListN.{length, getD}
 use Rattle.model.specs.Actl.{Actl, verum, falsum, has, lacks, both, either, AX, AU, AG}
 
--- kinds 1 to 9 of 01, in order; from `conj` on the operands are numbers of formulas
+-- kinds 1 to 9 of the specification, in order; from `conj` on the operands are numbers of formulas
 pub data Form : Type 0 where
   truth falsity : Form
   prop nprop : ℕ → Form

@@ -1,4 +1,4 @@
--- What a reader must believe, in the order in which 01 tells it.
+-- What a reader must believe, in the order in which the specification tells it.
 pub mod Events
 pub mod Sides
 pub mod Joined

@@ -1,5 +1,5 @@
--- 01, "Rows": the designs and converters of the starred rows. Label words stand in the states and proposition numbers in the formulas, so that a renumbering
--- of labels changes the numbers here and nothing else.
+-- Specification, "Rows": the designs and converters of the starred rows. Label words stand in the states and proposition numbers in the formulas, so that a
+-- renumbering of labels changes the numbers here and nothing else.
 use mathlib.Core.List.{List, [], _∷_, _++_}
 use Prim.Native.Nat.{ℕ, _+_}
 use lib.IntN.{pos}
@@ -9,7 +9,7 @@ use Rattle.model.specs.Converters.{Edge, Node, Converter}
 use Rattle.model.specs.Formulas.{Form, truth, prop, nprop, conj, disj, ax, au, ag}
 use Rattle.model.specs.Designs.{Design}
 
--- ---- as 01 writes them
+-- ---- as the specification writes them
 abbrev pub plus : ℕ → Event
 plus n = pos n
 
@@ -35,7 +35,7 @@ at s t es = record { names = s ∷ t ∷ []; edges = es }
 abbrev design : List Side → List Form → List ℕ → Design
 design Ss fs rs = record { sides = Ss; forms = fs; rules = rs }
 
--- ---- the handshake pair H: s0 and s1 beside t0 and t1 (000, section 3)
+-- ---- the handshake pair H: s0 and s1 beside t0 and t1 (the paper, section 3)
 abbrev pub handshake : List Side
 handshake =
     (labelling 1 (on tick 0 ∷ on (minus 1) 1 ∷ []) ∷ labelling 2 (on tick 1 ∷ on (minus 2) 0 ∷ []) ∷ [])
@@ -55,7 +55,7 @@ idle₂ = 2
 abbrev r-in : ℕ
 r-in = 3
 
--- records 1 and 2 of the converter F (000, Figure 5)
+-- records 1 and 2 of the converter F (the paper, Figure 5)
 abbrev F₁ : Node
 F₁ = at 1 0 (pair (plus 2) (minus 1) 2 ∷ pair tick tick 1 ∷ [])
 

@@ -1,4 +1,4 @@
--- 01, "Rows": the starred rows in one table, and what each says of the definitions. `proofs/Rows` `starred-rows` shows that every row is true.
+-- Specification, "Rows": the starred rows in one table, and what each says of the definitions. `proofs/Rows` `starred-rows` shows that every row is true.
 use mathlib.Core.Path.{_≡_}
 use mathlib.Core.List.{List, [], _∷_, List·Memᴰ as In}
 use Prim.Native.Nat.{ℕ}
@@ -46,7 +46,7 @@ Meaning (tick-refused C c xs k) =
     → ticked C (record { at = c; delivered = before }) xs
     ≡ record { answer = refused k; runner = record { at = c; delivered = before } }
 
--- the starred rows, in 01's order
+-- the starred rows, in the specification's order
 abbrev pub rows : List Row
 rows =
     -- H, no rules: 4 positions, a converter

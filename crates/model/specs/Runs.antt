@@ -1,4 +1,4 @@
--- 01, "The tick": one tick of a converter, the plain sides beside it, and what demand 3 says of every run. Shown and delivered events
+-- Specification, "The tick": one tick of a converter, the plain sides beside it, and what demand 3 says of every run. Shown and delivered events
 -- are lists with one event a side.
 use mathlib.Core.Path.{_≡_}
 use mathlib.Core.Bool.{Bool, true, false, not, _&&_, cond}
@@ -14,7 +14,7 @@ use Rattle.model.specs.Sides.{Move, State, Side, state}
 use Rattle.model.specs.Converters.{Edge, Converter, node, side-events}
 
 -- ---- one tick
--- A runner: the number of its converter state (01 says record) and the events last delivered.
+-- A runner: the number of its converter state (the specification says record) and the events last delivered.
 pub record Runner : Type 0 where
   pub at : ℕ
   pub delivered : List Event
@@ -24,7 +24,7 @@ pub data Answer : Type 0 where
   done : Answer
   refused : ℕ → Answer
 
--- A shown event fits the side event that it equals, and 0 fits any event not sent. A shown event above 0 fits none. 01's 17 for a
+-- A shown event fits the side event that it equals, and 0 fits any event not sent. A shown event above 0 fits none. The specification's 17 for a
 -- shown event below -63 is included: no event in range equals it, so none fits.
 unfoldable pub fits : Event → Event → Bool
 fits (pos zero) e = not (sent e)

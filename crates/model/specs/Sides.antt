@@ -1,4 +1,4 @@
--- 01, "Events and states": a side is a table of states; the three kinds of a state; and refusals 5 and 6 as predicates on tables.
+-- Specification, "Events and states": a side is a table of states; the three kinds of a state; and refusals 5 and 6 as predicates on tables.
 use mathlib.Core.Path.{_≡_}
 use mathlib.Core.Bool.{Bool, false, not, _||_, cond}
 use mathlib.Core.Logic.{_⊎_}
@@ -8,12 +8,12 @@ use lib.Dec.{T, eqb}
 use lib.ListN.{length, getD}
 use Rattle.model.specs.Events.{Event, tick, sent, InRange}
 
--- 01: the transition of a side's state
+-- the specification's transition of a side's state
 pub record Move : Type 0 where
   pub event : Event
   pub target : ℕ
 
--- Bit k of the label word is set where proposition k holds: 16 bits in 01; no formula names a higher one.
+-- Bit k of the label word is set where proposition k holds: 16 bits in the specification; no formula names a higher one.
 pub record State : Type 0 where
   pub label : ℕ
   pub moves : List Move
@@ -32,7 +32,7 @@ no-state = record { label = 0; moves = [] }
 abbrev pub state : Side → ℕ → State
 state S s = getD S s no-state
 
--- ---- the three kinds (000, section 4.1), each as 01 says it, of state number s with the table line q
+-- ---- the three kinds (the paper, section 4.1), each as the specification says it, of state number s with the table line q
 pub data Kind : Type 0 where
   input output-only delayed : Kind
 

@@ -1,19 +1,9 @@
-// Runs the rows of the specification on bytes. For each it writes a line: what was tried, and the answer, which is 0 for yes and done, a count, or the
-// number of a refusal. Where bytes are lent for a result, a second line says whether they are as they were.
-mod build;
-mod bytes;
-mod designs;
-mod files;
+// Runs the rows of the specification on the judge and the tick. For each it writes a line: what was tried, and the answer, which is 0 for yes and done, or the
+// number of a refusal. Lines below it say what the call left behind.
 mod judging;
-mod lines;
-mod searching;
 mod ticks;
 
 fn main() {
-    lines::checks();
-    designs::rows();
-    files::rows();
     judging::rows();
-    searching::rows();
     ticks::rows();
 }

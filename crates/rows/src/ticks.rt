@@ -1,6 +1,6 @@
 // Rows of the tick.
-use crate::bytes;
-use crate::lines;
+use row_parts::lines;
+use row_parts::tables;
 
 // One tick of F from a record: the answer, and where the runner stands then.
 fn tick(words: &[u8], record: u16, first: i8, second: i8) {
@@ -9,7 +9,7 @@ fn tick(words: &[u8], record: u16, first: i8, second: i8) {
         first: 0,
         second: 0,
     };
-    let after = runner::step(&bytes::F, before, first, second);
+    let after = runner::step(&tables::F, before, first, second);
     let answer = after.answer;
     match answer {
         runner::Answer::Done => lines::line(words, 0),

@@ -18,8 +18,8 @@ use Rattle.model.proofs.Fits.{ShowsAt, Found, found, none-fits, find}
 use Rattle.layout.specs.Sizes.{side-count, record-bytes}
 use Rattle.layout.specs.Tables.{table, table-from}
 use Rattle.layout.specs.Converters.{records, converter}
-use Rattle.layout.specs.Refusals.{first-failing, size-right, record-right}
-use Rattle.layout.proofs.Accepted.{converter-length, two-events, right-well-formed}
+use Rattle.refusals.specs.Refusals.{first-failing, size-right, record-right}
+use Rattle.refusals.proofs.Accepted.{converter-length, two-events, right-well-formed}
 use Rattle.layout.proofs.Nodes.{WellFormedNode}
 use Rattle.layout.proofs.Tables.{as-table, and-true}
 use Rattle.runner.specs.declared.Runner.{Runner}

@@ -13,8 +13,8 @@ use Rattle.model.specs.Judged.{all}
 use Rattle.model.specs.Runs.{first-fit}
 use Rattle.layout.specs.Sizes.{record-bytes}
 use Rattle.layout.specs.Converters.{records, converter}
-use Rattle.layout.specs.Refusals.{size-right, record-right}
-use Rattle.layout.proofs.Passing.{passed}
+use Rattle.refusals.specs.Refusals.{size-right, record-right}
+use Rattle.refusals.proofs.Passing.{passed}
 use Rattle.runner.specs.declared.Runner.{Runner}
 use Rattle.runner.specs.declared.Answer.the-variants.{Refused}
 use Rattle.runner.specs.Ticks.{can-show, tick-refusal, refused, taken, ticked}

@@ -1,5 +1,5 @@
--- Theorem 3 at the bytes: of every run over the bytes of a matched converter what 01 says under "The tick" is true. Call by call the run is the model's, so
--- the model's theorem carries over.
+-- Theorem 3 at the bytes: of every run over the bytes of a matched converter what the specification says under "The tick" is true. Call by call the run is the
+-- model's, so the model's theorem carries over.
 use mathlib.Core.Path.{_≡_, refl, sym, ap, subst, _∙_}
 use mathlib.Core.List.{List, [], _∷_, map}
 use Prim.Native.Nat.{ℕ, _*_, _<_}
@@ -17,10 +17,10 @@ use Rattle.model.proofs.Runs as model-runs
 use Rattle.layout.specs.Sizes.{record-bytes}
 use Rattle.layout.specs.Designs.{design}
 use Rattle.layout.specs.Converters.{records, converter}
-use Rattle.layout.specs.Refusals.{design-refusal, records-right, converter-refusal}
-use Rattle.layout.proofs.Accepted.{accepted, converter-length}
-use Rattle.layout.proofs.Passing.{passed}
-use Rattle.layout.proofs.WellFormed.{well-formed}
+use Rattle.refusals.specs.Refusals.{design-refusal, records-right, converter-refusal}
+use Rattle.refusals.proofs.Accepted.{accepted, converter-length}
+use Rattle.refusals.proofs.Passing.{passed}
+use Rattle.refusals.proofs.WellFormed.{well-formed}
 use Rattle.search.specs.declared.Outcome.the-variants.{Found}
 use Rattle.search.specs.Search.{Searches}
 use Rattle.search.proofs.Answers.{found-in}

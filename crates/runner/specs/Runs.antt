@@ -1,4 +1,4 @@
--- 01, "The tick": a run over the bytes of a converter, in the terms of the model, which says what is claimed of every run.
+-- Specification, "The tick": a run over the bytes of a converter, in the terms of the model, which says what is claimed of every run.
 use mathlib.Core.List.{List, [], _∷_}
 use Prim.Native.Nat.{ℕ}
 use Rattle.model.specs.Events.{Event}

@@ -1,4 +1,4 @@
--- 01, "The tick": one tick over the bytes of a converter. What is shown and what is delivered are lists with one event a side.
+-- Specification, "The tick": one tick over the bytes of a converter. What is shown and what is delivered are lists with one event a side.
 use mathlib.Core.Path.{_≡_}
 use mathlib.Core.Bool.{Bool, cond}
 use mathlib.Core.List.{List, [], _∷_}
@@ -13,7 +13,7 @@ use Rattle.model.specs.Judged.{all}
 use Rattle.model.specs.Runs.{first-fit}
 use Rattle.layout.specs.Sizes.{last-event, record-bytes}
 use Rattle.layout.specs.Converters.{records, converter}
-use Rattle.layout.specs.Refusals.{Test, first-failing, size-right, record-right}
+use Rattle.refusals.specs.Refusals.{Test, first-failing, size-right, record-right}
 use Rattle.runner.specs.declared.Runner.{Runner}
 use Rattle.runner.specs.declared.Answer.{Answer}
 use Rattle.runner.specs.declared.Answer.the-variants.{Done, Refused}

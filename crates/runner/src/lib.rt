@@ -11,12 +11,12 @@ ghost use Rattle.model.specs.Runs.{fits, all-fit, first-fit};
 ghost use Rattle.layout.specs.Sizes.{record-bytes};
 ghost use Rattle.layout.specs.Converters.{records, converter};
 ghost use Rattle.layout.specs.Tests.{in-range};
-ghost use Rattle.layout.specs.Refusals.{record-right};
+ghost use Rattle.refusals.specs.Refusals.{record-right};
 ghost use Rattle.runner.specs.Ticks.{can-show, tick-refusal, taken, ticked, Ticks};
-use layout::converters;
 use layout::events;
 use layout::records::Transition;
 use layout::sizes::RECORD_BYTES;
+use refusals::converters;
 
 // What a host lends: the number of a record, and the events last delivered to the sides.
 #[repr(C)]
@@ -24,6 +24,18 @@ pub struct Runner {
     pub record: u16,
     pub first: i8,
     pub second: i8,
+}
+
+impl Runner {
+    // The runner at another record, with these events delivered.
+    fn moved(mut self, next: u16, first: i8, second: i8) -> Self
+        ensures { λ r. ⌜ r ≡ record { «record» = next; first = first; second = second } ⌝ }
+    {
+        self.record = next;
+        self.first = first;
+        self.second = second;
+        self
+    }
 }
 
 // "done", or a refusal's number.
@@ -130,11 +142,7 @@ fn take_first(s: &[u8], c: usize, runner: Runner, shown: [i8; 2]) -> Ticked
         if fits_events(shown, events) {
             return Ticked {
                 answer: Answer::Done,
-                runner: Runner {
-                    record: t.next,
-                    first: events[0],
-                    second: events[1],
-                },
+                runner: runner.moved(t.next, events[0], events[1]),
             };
         }
         k += 1;

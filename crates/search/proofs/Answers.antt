@@ -12,9 +12,9 @@ use Rattle.layout.specs.Sizes.{record-bytes}
 use Rattle.layout.specs.Bytes.{put}
 use Rattle.layout.specs.Designs.{design}
 use Rattle.layout.specs.Converters.{records, converter}
-use Rattle.layout.specs.Refusals.{design-refusal, converter-refusal}
+use Rattle.refusals.specs.Refusals.{design-refusal, converter-refusal}
 use Rattle.layout.proofs.Put.{length-put}
-use Rattle.layout.proofs.Accepted.{accepted}
+use Rattle.refusals.proofs.Accepted.{accepted}
 use Rattle.search.specs.declared.Outcome.{Outcome}
 use Rattle.search.specs.declared.Outcome.the-variants.{Found, Refused}
 use Rattle.search.specs.Search.{search-refusal, Finding, declined, none, found, answer-of, table-of, Searches}

@@ -13,12 +13,12 @@ pub struct Judged {
     pub converter: Vec<u8>,
 }
 
-/// Designs to search, by what they are like, in growing sizes.
-pub fn searched() -> Vec<(&'static str, Vec<Vec<Design>>)> {
-    let one = |design: Design| vec![design];
+/// Designs to search, by what they are like, in growing sizes, of which `sizes` are made.
+pub fn searched(sizes: usize) -> Vec<(&'static str, Vec<Vec<Design>>)> {
     let kept = |counts: &[usize], make: &dyn Fn(usize) -> Design| -> Vec<Vec<Design>> {
-        counts.iter().map(|&kept| one(make(kept))).collect()
+        counts.iter().take(sizes).map(|&kept| vec![make(kept)]).collect()
     };
+    let climbing = [(4, 2, 4), (8, 4, 4), (16, 8, 4), (16, 12, 5)];
     vec![
         ("16 by 16 states, an until", kept(&[2, 4, 6, 8], &|kept| grid(16, kept, true))),
         ("16 by 16 states, no until", kept(&[2, 4, 6, 8], &|kept| grid(16, kept, false))),
@@ -29,17 +29,16 @@ pub fn searched() -> Vec<(&'static str, Vec<Vec<Design>>)> {
         ("rings of 16 and 15, an always that fails late", kept(&[3, 5, 7], &late)),
         (
             "levels, four or five untils",
-            vec![
-                one(levels(4, 2, 4)),
-                one(levels(8, 4, 4)),
-                one(levels(16, 8, 4)),
-                one(levels(16, 12, 5)),
-            ],
+            climbing
+                .into_iter()
+                .take(sizes)
+                .map(|(states, ring_states, untils)| vec![levels(states, ring_states, untils)])
+                .collect(),
         ),
-        ("twenty random designs", SIZES.map(|size| random(size, false)).to_vec()),
+        ("twenty random designs", each(sizes, |size| random(size, false))),
         (
             "twenty random sets of rules over rings of 16 and 15",
-            SIZES.map(|size| random(size, true)).to_vec(),
+            each(sizes, |size| random(size, true)),
         ),
     ]
 }
@@ -66,8 +65,7 @@ fn ring(states: usize, last: u16, odd: u16) -> Vec<State> {
 /// their ends, if there is an until; and "in two ticks' time" for the others.
 fn grid(states: usize, kept: usize, until: bool) -> Design {
     let sides = [ring(states, 0, 1), ring(states, 2, 3)];
-    let mut formulas =
-        vec![Formula::True, Formula::Proposition(0), Formula::Proposition(2), Formula::And(1, 2)];
+    let mut formulas = both_at_their_ends();
     let mut rules = Vec::new();
     let mut count = 0;
     if until {
@@ -79,6 +77,11 @@ fn grid(states: usize, kept: usize, until: bool) -> Design {
     let made = Design { sides, formulas, rules };
     assert_eq!(made.kept().len(), kept);
     made
+}
+
+/// Formula 3: both rings are at their ends.
+fn both_at_their_ends() -> Vec<Formula> {
+    vec![Formula::True, Formula::Proposition(0), Formula::Proposition(2), Formula::And(1, 2)]
 }
 
 /// The same with an until, where every state has eight transitions.
@@ -131,14 +134,8 @@ fn ticking() -> [Vec<State>; 2] {
 
 /// Again and again both rings are at their ends, once in 240 ticks.
 fn rings(kept: usize) -> Design {
-    let mut formulas = vec![
-        Formula::True,
-        Formula::Proposition(0),
-        Formula::Proposition(2),
-        Formula::And(1, 2),
-        Formula::Until(0, 3),
-        Formula::Always(4),
-    ];
+    let mut formulas = both_at_their_ends();
+    formulas.extend([Formula::Until(0, 3), Formula::Always(4)]);
     let mut rules = vec![5];
     more_kept(&mut formulas, &mut rules, kept - 2);
     Design { sides: ticking(), formulas, rules }
@@ -147,18 +144,15 @@ fn rings(kept: usize) -> Design {
 /// Both rings are at their ends at some time, or never: whatever owes the
 /// second is lost, and is found so one tick after the other.
 fn late(kept: usize) -> Design {
-    let mut formulas = vec![
-        Formula::True,
-        Formula::Proposition(0),
-        Formula::Proposition(2),
-        Formula::And(1, 2),
+    let mut formulas = both_at_their_ends();
+    formulas.extend([
         Formula::Until(0, 3),
         Formula::NotProposition(0),
         Formula::NotProposition(2),
         Formula::Or(5, 6),
         Formula::Always(7),
         Formula::Or(8, 4),
-    ];
+    ]);
     let mut rules = vec![9];
     more_kept(&mut formulas, &mut rules, kept - 3);
     Design { sides: ticking(), formulas, rules }
@@ -211,18 +205,26 @@ fn random(size: usize, over_rings: bool) -> Vec<Design> {
 
 const SIZES: [usize; 4] = [1_024, 4_096, 16_384, 65_536];
 
+/// What is made of the smallest of the sizes, so many of them.
+fn each<Made>(sizes: usize, make: impl Fn(usize) -> Made) -> Vec<Made> {
+    SIZES.into_iter().take(sizes).map(make).collect()
+}
+
 /// Designs with 64 formulas and converters to judge, by what they are like, in
-/// growing sizes.
-pub fn judged() -> Vec<(&'static str, Vec<Judged>)> {
-    let random = SIZES.map(|records| mesh(records, many_formulas()));
-    let ahead = SIZES.map(|records| chain(records, false, until_formulas()));
-    let mixed = SIZES.map(|records| chain(records, true, until_formulas()));
-    let failing = SIZES.map(|records| chain(records, true, always_formulas()));
+/// growing sizes, of which `sizes` are made.
+pub fn judged(sizes: usize) -> Vec<(&'static str, Vec<Judged>)> {
+    let random = |records| mesh(records, many_formulas());
+    let ahead = |records| chain(records, false, until_formulas());
+    let mixed = |records| chain(records, true, until_formulas());
+    let failing = |records| chain(records, true, always_formulas());
     vec![
-        ("64 random formulas, random links", random.into()),
-        ("64 formulas, eight untils down a chain in order", ahead.into()),
-        ("64 formulas, eight untils down a shuffled chain", mixed.into()),
-        ("64 formulas, eight always that fail at the end of a shuffled chain", failing.into()),
+        ("64 random formulas, random links", each(sizes, random)),
+        ("64 formulas, eight untils down a chain in order", each(sizes, ahead)),
+        ("64 formulas, eight untils down a shuffled chain", each(sizes, mixed)),
+        (
+            "64 formulas, eight always that fail at the end of a shuffled chain",
+            each(sizes, failing),
+        ),
     ]
 }
 
@@ -257,9 +259,9 @@ fn eight_times(literal: Formula, same: Formula) -> Vec<Formula> {
     formulas
 }
 
-/// Converters for the files and the tick.
-pub fn converters() -> Vec<Vec<u8>> {
-    SIZES.map(|records| mesh(records, (vec![], vec![])).converter).into()
+/// Converters for the files and the tick, in growing sizes, of which `sizes` are made.
+pub fn converters(sizes: usize) -> Vec<Vec<u8>> {
+    each(sizes, |records| mesh(records, (vec![], vec![])).converter)
 }
 
 /// A converter over two rings of four states, with two or three random links in each record.

@@ -3,6 +3,10 @@
 //! against its own steps in plain Rust and against the fast baseline, every
 //! other call against the baseline. All must give the same answer each time, or
 //! the run stops.
+//!
+//! With the argument `smallest` each measurement is made at its smallest size
+//! alone, and each call is timed once. Such times say little; the run shows that
+//! everything is measured and agrees.
 
 #![forbid(unsafe_code)]
 
@@ -15,35 +19,75 @@ use checker::bytes::{positions, Design};
 use gorzhani::{Refused, BLOCK, CELL, RECORD};
 use inputs::Judged;
 
-/// What is measured is called again until this much time went by, and three times at least.
-const ENOUGH: Duration = Duration::from_millis(500);
-
 /// A larger size is left out once a call took this long.
 const TOO_LONG: Duration = Duration::from_secs(2);
 
-fn main() {
+/// How much is measured.
+#[derive(Clone, Copy)]
+struct Extent {
+    /// How many sizes, from the smallest on.
+    sizes: usize,
+    /// What is measured is called again until there were so many calls,
+    calls: usize,
+    /// and until this much time went by.
+    spent: Duration,
+}
+
+impl Extent {
+    const FULL: Extent = Extent { sizes: usize::MAX, calls: 3, spent: Duration::from_millis(500) };
+    const SMALLEST: Extent = Extent { sizes: 1, calls: 1, spent: Duration::ZERO };
+
+    /// The shortest time of each of some calls, made in turn.
+    fn shortest<const CALLS: usize>(
+        self,
+        mut calls: [&mut dyn FnMut(); CALLS],
+    ) -> [Duration; CALLS] {
+        let mut times = [const { Times::NONE }; CALLS];
+        while times.iter().any(|times| !times.enough(self)) {
+            for (times, call) in times.iter_mut().zip(&mut calls) {
+                times.call(self, call);
+            }
+        }
+        times.map(|times| times.best.expect("there was a call"))
+    }
+}
+
+fn main() -> Result<(), String> {
+    let extent = match std::env::args().nth(1).as_deref() {
+        None => Extent::FULL,
+        Some("smallest") => Extent::SMALLEST,
+        Some(other) => return Err(format!("{other} is not the argument `smallest`")),
+    };
     header("search", ["same steps", "fast baseline"]);
-    for (job, designs) in inputs::searched() {
+    for (job, designs) in inputs::searched(extent.sizes) {
         let rows = designs.iter().map(|made| {
             let sizes: Vec<u128> = made.iter().map(positions).collect();
-            (sizes.iter().sum::<u128>() / sizes.len() as u128, move || search(made))
+            (sizes.iter().sum::<u128>() / sizes.len() as u128, move || search(extent, made))
         });
         table(job, "positions", rows);
     }
     println!();
     header("other calls", ["baseline"]);
-    for (job, judged) in inputs::judged() {
+    for (job, judged) in inputs::judged(extent.sizes) {
         let rows = judged.iter().map(|made| {
             let records = made.converter.len() / RECORD;
-            (records as u128, move || judge(made))
+            (records as u128, move || judge(extent, made))
         });
         table(&format!("judge, {job}"), "records", rows);
     }
-    let converters = inputs::converters();
-    let sizes = || converters.iter().map(|made| ((made.len() / RECORD) as u128, made));
-    table("block writer", "records", sizes().map(|(size, made)| (size, move || write(made))));
-    table("block reader", "records", sizes().map(|(size, made)| (size, move || read(made))));
-    table("1,000 ticks", "records", sizes().map(|(size, made)| (size, move || ticks(made))));
+    let converters = inputs::converters(extent.sizes);
+    for (job, call) in [
+        ("block writer", write as fn(Extent, &[u8]) -> [Duration; 2]),
+        ("block reader", read),
+        ("1,000 ticks", ticks),
+    ] {
+        let rows = converters.iter().map(|made| {
+            let records = made.len() / RECORD;
+            (records as u128, move || call(extent, made))
+        });
+        table(job, "records", rows);
+    }
+    Ok(())
 }
 
 /// Prints a table's header: the library's time; for each of the others its time
@@ -105,17 +149,6 @@ fn shown(time: Duration) -> String {
     }
 }
 
-/// The shortest time of each of some calls, made in turn.
-fn shortest<const CALLS: usize>(mut calls: [&mut dyn FnMut(); CALLS]) -> [Duration; CALLS] {
-    let mut times = [const { Times::NONE }; CALLS];
-    while times.iter().any(|times| !times.enough()) {
-        for (times, call) in times.iter_mut().zip(&mut calls) {
-            times.call(call);
-        }
-    }
-    times.map(|times| times.best.expect("there was a call"))
-}
-
 /// The times of calls of one kind.
 struct Times {
     best: Option<Duration>,
@@ -126,14 +159,14 @@ struct Times {
 impl Times {
     const NONE: Times = Times { best: None, spent: Duration::ZERO, calls: 0 };
 
-    fn enough(&self) -> bool {
+    fn enough(&self, extent: Extent) -> bool {
         let slow = self.best.is_some_and(|best| best > TOO_LONG / 4);
-        slow || (self.calls >= 3 && self.spent >= ENOUGH)
+        slow || (self.calls >= extent.calls && self.spent >= extent.spent)
     }
 
     /// Calls once more, unless there were enough calls.
-    fn call(&mut self, what: &mut impl FnMut()) {
-        if self.enough() {
+    fn call(&mut self, extent: Extent, what: &mut impl FnMut()) {
+        if self.enough(extent) {
             return;
         }
         let start = Instant::now();
@@ -147,7 +180,7 @@ impl Times {
 
 /// Searches some designs, one after the other: the time of all by the library,
 /// by its own steps in plain Rust, and by the fast baseline.
-fn search(designs: &[Design]) -> [Duration; 3] {
+fn search(extent: Extent, designs: &[Design]) -> [Duration; 3] {
     let bytes: Vec<Vec<u8>> = designs.iter().map(Design::to_bytes).collect();
     let largest = designs.iter().map(positions).max().expect("there are designs") as usize;
     let lent = || (vec![0; RECORD * largest], vec![0; CELL * largest]);
@@ -168,7 +201,7 @@ fn search(designs: &[Design]) -> [Duration; 3] {
     let all = |search: &mut dyn FnMut(&[u8])| bytes.iter().for_each(|design| search(design));
     let [(mut table, mut work), (mut table_2, mut work_2), (mut table_3, mut work_3)] =
         [lent(), lent(), lent()];
-    shortest([
+    extent.shortest([
         &mut || {
             all(&mut |design| {
                 let _ = black_box(gorzhani::search(design, &mut table, &mut work));
@@ -191,13 +224,13 @@ fn number(Refused(number): Refused) -> u8 {
     number
 }
 
-fn judge(made: &Judged) -> [Duration; 2] {
+fn judge(extent: Extent, made: &Judged) -> [Duration; 2] {
     let mut work = vec![0; CELL * (made.converter.len() / RECORD)];
     let mut other_work = work.clone();
     let library = gorzhani::judge(&made.design, &made.converter, &mut work);
     let baseline = baseline::judge(&made.design, &made.converter, &mut work);
     assert_eq!(library.map_err(number), baseline, "the verdicts agree");
-    shortest([
+    extent.shortest([
         &mut || {
             let _ = black_box(gorzhani::judge(&made.design, &made.converter, &mut work));
         },
@@ -207,11 +240,11 @@ fn judge(made: &Judged) -> [Duration; 2] {
     ])
 }
 
-fn write(converter: &[u8]) -> [Duration; 2] {
+fn write(extent: Extent, converter: &[u8]) -> [Duration; 2] {
     let count = (converter.len() / RECORD).div_ceil(14);
     let mut blocks = vec![0; BLOCK * count];
     let mut other_blocks = blocks.clone();
-    let times = shortest([
+    let times = extent.shortest([
         &mut || assert_eq!(gorzhani::write(converter, &mut blocks), Ok(count)),
         &mut || assert_eq!(baseline::write(converter, &mut other_blocks), Ok(count)),
     ]);
@@ -219,12 +252,12 @@ fn write(converter: &[u8]) -> [Duration; 2] {
     times
 }
 
-fn read(converter: &[u8]) -> [Duration; 2] {
+fn read(extent: Extent, converter: &[u8]) -> [Duration; 2] {
     let records = converter.len() / RECORD;
     let mut blocks = vec![0; BLOCK * records.div_ceil(14)];
     baseline::write(converter, &mut blocks).expect("the records are right");
     let (mut memory, mut other_memory) = (vec![0; converter.len()], vec![0; converter.len()]);
-    let times = shortest([
+    let times = extent.shortest([
         &mut || assert_eq!(gorzhani::read(&blocks, &mut memory), Ok(records)),
         &mut || assert_eq!(baseline::read(&blocks, &mut other_memory), Ok(records)),
     ]);
@@ -232,7 +265,7 @@ fn read(converter: &[u8]) -> [Duration; 2] {
     times
 }
 
-fn ticks(converter: &[u8]) -> [Duration; 2] {
+fn ticks(extent: Extent, converter: &[u8]) -> [Duration; 2] {
     const TICKS: usize = 1_000;
     // The sides show nothing: what is read or waited for is delivered.
     let library = || {
@@ -250,7 +283,7 @@ fn ticks(converter: &[u8]) -> [Duration; 2] {
         (runner.record, runner.delivered)
     };
     assert_eq!(library(), baseline(), "the runs agree");
-    shortest([
+    extent.shortest([
         &mut || {
             black_box(library());
         },

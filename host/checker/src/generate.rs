@@ -8,7 +8,8 @@ use crate::bytes::{
     converter_bytes, seal, write_blocks, Design, Formula, Link, Record, State, StateKind,
     Transition, BLOCK_BYTES, BLOCK_RECORDS, HEADER_BYTES, PLACES, RECORD_BYTES,
 };
-use crate::joined::{enabling, steps, Enabling, Pair, Step};
+use crate::joined::{enabling, pairs, steps, Enabling, Pair, Step};
+use crate::judge::model;
 use crate::tick::{tick, PlainSides, Runner};
 
 /// A xorshift generator.
@@ -253,7 +254,61 @@ fn tree(random: &mut Random, shape: &Shape, formulas: &mut Vec<Formula>, depth: 
         11..=13 => Formula::Until(below(random), below(random)),
         _ => Formula::Always(below(random)),
     };
-    formulas.push(made);
+    put(formulas, made)
+}
+
+/// A design whose rules want progress again and again: until formulas under
+/// always, beside each other, inside each other and under AX. One side mostly
+/// reads, so that much is left to the converter. A rule has at most 20 formulas,
+/// so with up to three rules the design is well-formed.
+pub fn progress_design(random: &mut Random, shape: &Shape) -> Design {
+    let states = random.from_to(2, shape.states.max(2));
+    let reader = (0..states).map(|own| state(random, shape, own, states, true)).collect();
+    let mut sides = [reader, side(random, shape)];
+    random.shuffle(&mut sides);
+    let mut formulas = Vec::new();
+    let count = random.from_to(1, shape.rules);
+    let rules = (0..count).map(|_| progress_rule(random, shape, &mut formulas) as u8).collect();
+    Design { sides, formulas, rules }
+}
+
+/// Puts a rule that wants progress after the formulas, and answers its number.
+fn progress_rule(random: &mut Random, shape: &Shape, formulas: &mut Vec<Formula>) -> usize {
+    let until = progress_until(random, shape, formulas);
+    let around = match random.below(8) {
+        0 => Some(Formula::Next(until)),
+        1 => Some(Formula::And(until, progress_until(random, shape, formulas))),
+        2 => Some(Formula::Or(until, progress_until(random, shape, formulas))),
+        3 => Some(Formula::Or(tree(random, shape, formulas, 1), until)),
+        4 => Some(Formula::Until(tree(random, shape, formulas, 1), until)),
+        5 => Some(Formula::Until(until, tree(random, shape, formulas, 1))),
+        _ => None,
+    };
+    let body = around.map_or(until, |around| put(formulas, around));
+    let always = put(formulas, Formula::Always(body));
+    if random.once_in(4) {
+        let before = tree(random, shape, formulas, 1);
+        put(formulas, Formula::Until(before, always))
+    } else {
+        always
+    }
+}
+
+/// Puts an until formula after the formulas, mostly one that only wants
+/// something to come, and answers its number.
+fn progress_until(random: &mut Random, shape: &Shape, formulas: &mut Vec<Formula>) -> usize {
+    let before = if random.once_in(3) {
+        tree(random, shape, formulas, 1)
+    } else {
+        put(formulas, Formula::True)
+    };
+    let goal = tree(random, shape, formulas, 1);
+    put(formulas, Formula::Until(before, goal))
+}
+
+/// Puts a formula after the others, and answers its number.
+fn put(formulas: &mut Vec<Formula>, formula: Formula) -> usize {
+    formulas.push(formula);
     formulas.len() - 1
 }
 
@@ -388,6 +443,65 @@ fn enabled(random: &mut Random, design: &Design, pair: Pair) -> Vec<Step> {
             steps
         }
     }
+}
+
+/// The converter with one record for each pair that enables the first
+/// transitions it may. Where it keeps the rules there is little to find.
+pub fn lax_converter(design: &Design) -> Vec<Record> {
+    let pairs = pairs(design);
+    let number = |to: Pair| pairs.iter().position(|&pair| pair == to).expect("a pair") as u16;
+    let lax_record = |&pair: &Pair| {
+        let mut enabled = steps(design, pair);
+        match enabling(design, pair) {
+            Enabling::All => {}
+            Enabling::Some => enabled.truncate(PLACES),
+            Enabling::SendAndTick(side) => {
+                let (sending, waiting): (Vec<Step>, Vec<Step>) =
+                    enabled.into_iter().partition(|step| step.events[side] < 0);
+                enabled = vec![sending[0], waiting[0]];
+            }
+        }
+        let link =
+            |step: &Step| Link { events: step.events.map(|event| -event), next: number(step.to) };
+        let links = enabled.iter().map(link).collect();
+        Record { pair: pair.map(|state| state as u8), links }
+    };
+    pairs.iter().map(lax_record).collect()
+}
+
+/// A design and a matched converter that keeps its rules, of which one at
+/// least fails under the lax converter.
+pub fn planted_design(random: &mut Random, shape: &Shape) -> (Design, Vec<Record>) {
+    loop {
+        let sides = [0, 1].map(|_| side(random, shape));
+        let formulas = if random.once_in(2) {
+            trees(random, shape).0
+        } else {
+            formulas(random, shape, shape.formulas / 2)
+        };
+        let mut design = Design { sides, formulas, rules: vec![] };
+        let spare = random.below(8);
+        let converter = matched_converter(random, &design, spare);
+        let holding = holding_at_start(&design, &converter);
+        let lax = holding_at_start(&design, &lax_converter(&design));
+        let telling: Vec<usize> = holding.difference(&lax).copied().collect();
+        if telling.is_empty() {
+            continue;
+        }
+        let others: Vec<usize> = holding.into_iter().collect();
+        design.rules.push(*random.pick(&telling) as u8);
+        for _ in 0..random.below(shape.rules) {
+            let pool = if random.once_in(2) { &telling } else { &others };
+            design.rules.push(*random.pick(pool) as u8);
+        }
+        return (design, converter);
+    }
+}
+
+/// The formulas that hold at the start under a matched converter.
+fn holding_at_start(design: &Design, converter: &[Record]) -> BTreeSet<usize> {
+    let holding = model(design, converter).holding(&design.formulas);
+    (0..holding.len()).filter(|&number| holding[number].contains(&0)).collect()
 }
 
 /// A converter that is matched but for one small change, which may happen to

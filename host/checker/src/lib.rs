@@ -1,14 +1,16 @@
 //! A second checker for converters between a kernel table and a host table.
 //!
-//! It answers the same questions as the verified code, from the scope paper
-//! alone and by another method: plain parsing, explicit sets of states and of
-//! formulas, and no numbering of positions. Where the two differ, one is wrong.
+//! It answers the same questions as the proved library and is written from the
+//! specification alone: plain parsing, explicit sets of states and of formulas,
+//! and no numbering of positions. Where the two differ, one is wrong. What the
+//! two have in common is told in README.md.
 //!
 //! - [`bytes`]: designs, converter records and converter files.
 //! - [`joined`]: the two sides moving together, and what a converter may enable.
 //! - [`ctl`]: the states in which each formula holds.
 //! - [`judge`](mod@judge): is a converter matched, and does it keep the rules.
 //! - [`search`](mod@search): is there a converter at all, and if so, one of them.
+//! - [`none`]: is there no converter at all, by another method than the search.
 //! - [`brute`]: every converter of up to three records, tried in turn.
 //! - [`tick`](mod@tick): the running converter, the plain sides, the claim about runs.
 //! - [`generate`]: seeded random designs, converters and files, sound and damaged.
@@ -21,6 +23,7 @@ pub mod ctl;
 pub mod generate;
 pub mod joined;
 pub mod judge;
+pub mod none;
 pub mod refusal;
 pub mod search;
 pub mod tick;

@@ -325,7 +325,7 @@ fn file_faults() -> Vec<Fault> {
     faults
 }
 
-/// Reads a file into patterned bytes and holds them against the paper.
+/// Reads a file into patterned bytes and holds them against the specification.
 fn file_read(file: &[u8], lent_length: usize) -> Result<usize, u8> {
     let mut lent = pattern(lent_length);
     let answer = read_blocks(file, &mut lent);
@@ -517,7 +517,7 @@ fn order_of_the_writer() {
     }
 }
 
-/// Ticks, and holds the runner against the paper where the tick is refused.
+/// Ticks, and holds the runner against the specification where the tick is refused.
 fn ticked(converter: &[u8], record: usize, shown: [i8; 2]) -> Result<Runner, u8> {
     let start = Runner { record, delivered: [9, -9] };
     let mut runner = start;

@@ -1,4 +1,4 @@
-//! The rows of the scope paper. Every expected value is written from the paper.
+//! The rows of the specification. Every expected value is written from it.
 
 mod samples;
 

@@ -21,7 +21,7 @@ pub fn examples() -> Vec<Example> {
     ]
 }
 
-/// The two tables of the source paper's section 3, and its first three rules.
+/// The two tables of the paper's section 3, and its first three rules.
 fn handshake_with(
     name: &'static str,
     title: &'static str,
@@ -83,7 +83,7 @@ fn handshake() -> Example {
         ),
         Verdict::Converter,
         "\
-The fourth rule is as the source paper's words say it; the paper prints another, see [handshake-printed](handshake-printed.md).
+The fourth rule is as the paper's words say it; the paper prints another, see [handshake-printed](handshake-printed.md).
 The request is passed on when the grant is sent, and the grant one tick later.",
     )
 }
@@ -469,7 +469,7 @@ wants to read two words in a row.",
         Verdict::None,
         "\
 The consumer asks of its own accord and must get access in the end. Then it uses the bus for two ticks in a row, and the arbiter takes the
-grant back after one. The source paper reports the same failure.",
+grant back after one. The paper reports the same failure.",
     )
 }
 

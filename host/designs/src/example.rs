@@ -77,6 +77,16 @@ pub struct Example {
 }
 
 impl Example {
+    /// The file of what the convert program writes: the converter's blocks, or the line that none
+    /// exists.
+    pub fn answer_file(&self) -> String {
+        let kind = match self.verdict {
+            Verdict::Converter => "converter",
+            Verdict::None => "refused",
+        };
+        format!("{}.{kind}", self.name)
+    }
+
     /// The design, with every name replaced by its number.
     pub fn design(&self) -> Design {
         let mut records = Records::new(&self.propositions);

@@ -1,6 +1,6 @@
 //! Writes the examples: for each its design and its page, and with `--search` also what the convert
-//! program would write for it, by the second checker's search. Without it the page shows the
-//! converter that stands beside the design.
+//! program would write for it, by the second checker's search. Without it the page shows
+//! what stands beside the design.
 
 use std::path::Path;
 use std::{env, fs, io};
@@ -22,7 +22,7 @@ fn main() -> io::Result<()> {
     for example in &examples {
         let design = example.design();
         fs::write(folder.join(format!("{}.design", example.name)), design.to_bytes())?;
-        let beside = folder.join(format!("{}.converter", example.name));
+        let beside = folder.join(example.answer_file());
         if search {
             fs::write(&beside, searched(&design))?;
         }

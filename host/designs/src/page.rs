@@ -134,11 +134,12 @@ fn grouped(number: u128) -> String {
 pub fn list(examples: &[Example]) -> String {
     let mut out = String::from(
         "# Examples\n\n\
-         Each design stands here as the file that the convert program reads (NAME.design), with what the program writes for it\n\
-         (NAME.converter) and a page that shows the tables, the rules and the converter (NAME.md). Numbers in brackets are those of\n\
-         Table 2 of the source paper. Designs and pages are written from the data in host/designs:\n\n\
+         Each design stands here as the file that the convert program reads (NAME.design), with what the program writes for it and a\n\
+         page that shows the tables, the rules and the converter (NAME.md). What it writes is the converter (NAME.converter) or, where\n\
+         none exists, the line `refused 16` (NAME.refused). Numbers in brackets are those of Table 2 of the paper that\n\
+         docs/SPECIFICATION.md names. Designs and pages are written from the data in host/designs:\n\n\
          \x20   cd host && cargo run --release --offline --locked -p designs\n\n\
-         and a converter by `target/bin/convert < NAME.design > NAME.converter`.\n\n\
+         and what stands beside a design by `target/bin/convert < NAME.design`.\n\n\
          | example | states | positions | verdict |\n|---|---|---|---|\n",
     );
     for example in examples {

@@ -1,6 +1,7 @@
 //! The files of the examples folder are what the data say, and what the data
 //! say of them is so.
 
+use std::collections::BTreeSet;
 use std::fs;
 use std::path::PathBuf;
 
@@ -9,19 +10,22 @@ use designs::collection::examples;
 use designs::example::{Example, Verdict};
 use designs::page;
 
+fn folder() -> PathBuf {
+    PathBuf::from(env!("CARGO_MANIFEST_DIR")).join("../../examples")
+}
+
 fn file(name: &str) -> Vec<u8> {
-    let folder = PathBuf::from(env!("CARGO_MANIFEST_DIR")).join("../../examples");
-    fs::read(folder.join(name)).unwrap_or_else(|error| panic!("{name}: {error}"))
+    fs::read(folder().join(name)).unwrap_or_else(|error| panic!("{name}: {error}"))
 }
 
 fn text(name: &str) -> String {
     String::from_utf8(file(name)).expect("a page is text")
 }
 
-/// The converter file of an example.
+/// What the convert program wrote for an example.
 fn converted(example: &Example) -> Option<Vec<checker::bytes::Record>> {
-    let bytes = file(&format!("{}.converter", example.name));
-    page::records(&bytes).unwrap_or_else(|number| panic!("{}: refused {number}", example.name))
+    page::records(&file(&example.answer_file()))
+        .unwrap_or_else(|number| panic!("{}: refused {number}", example.name))
 }
 
 #[test]
@@ -42,6 +46,25 @@ fn pages_are_what_the_data_say() {
         assert_eq!(text(&format!("{}.md", example.name)), page);
     }
     assert_eq!(text("README.md"), page::list(&examples));
+}
+
+/// Each example has three files, of which one says by its name whether a converter exists; nothing
+/// else stands there.
+#[test]
+fn no_other_files() {
+    let mut expected = BTreeSet::from(["README.md".to_string()]);
+    for example in examples() {
+        let answer = match checker::search::find(&example.design()) {
+            Some(_) => "converter",
+            None => "refused",
+        };
+        expected.extend(["design", "md", answer].map(|kind| format!("{}.{kind}", example.name)));
+    }
+    let names = fs::read_dir(folder()).expect("there are examples").map(|entry| {
+        let name = entry.expect("the folder can be read").file_name();
+        name.into_string().expect("a name is text")
+    });
+    assert_eq!(names.collect::<BTreeSet<String>>(), expected);
 }
 
 #[test]

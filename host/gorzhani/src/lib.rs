@@ -1,6 +1,10 @@
 //! A safe wrapper over the proved library: what its C header asks of a caller (valid pointers, lengths that belong to them, buffers that do not overlap)
-//! is kept here by slices. A refusal is an error with its number.
+//! is kept here by slices. A refusal is an error with its number. What is lent may be longer than a call asks for; the bytes behind stay as they are.
 #![warn(missing_docs)]
+
+mod refused;
+
+pub use refused::Refused;
 
 /// The bytes of a design.
 pub const DESIGN: usize = 2048;
@@ -10,10 +14,8 @@ pub const RECORD: usize = 36;
 pub const BLOCK: usize = 512;
 /// The bytes of work for each position of a search and each record that is judged.
 pub const CELL: usize = 16;
-
-/// The number of a refusal.
-#[derive(Clone, Copy, Debug, PartialEq, Eq)]
-pub struct Refused(pub u8);
+/// The most positions of a design that is searched, and the most records of a converter.
+pub const MOST: usize = 65_536;
 
 /// The record that a runner stands at, and the events last delivered to the two sides.
 #[repr(C)]
@@ -28,6 +30,7 @@ pub struct Runner {
 }
 
 extern "C" {
+    fn gorzhani_positions(design: *const u8, design_len: usize) -> i32;
     fn gorzhani_search(
         design: *const u8,
         design_len: usize,
@@ -72,9 +75,16 @@ fn answer(code: i32) -> Result<usize, Refused> {
     }
 }
 
-/// Searches a converter for a design. The count of records at the front of the table, or the refusal; 16 where none exists.
+/// Counts the positions of a design, 1 to [`MOST`], by which its search is lent memory.
+pub fn positions(design: &[u8]) -> Result<usize, Refused> {
+    // SAFETY: a slice's pointer is valid for its length and not null; nothing is written.
+    answer(unsafe { gorzhani_positions(design.as_ptr(), design.len()) })
+}
+
+/// Searches a converter for a design: lend [`RECORD`] bytes of table and [`CELL`] bytes of work for each of its positions. The count of records at the front
+/// of the table, or the refusal, [`Refused::NO_CONVERTER`] where none exists.
 pub fn search(design: &[u8], table: &mut [u8], work: &mut [u8]) -> Result<usize, Refused> {
-    // SAFETY: the slices are valid for their lengths, and two `&mut` and a `&` do not overlap.
+    // SAFETY: as above, and two `&mut` and a `&` do not overlap, nor does anybody else write them.
     answer(unsafe {
         gorzhani_search(
             design.as_ptr(),
@@ -87,7 +97,7 @@ pub fn search(design: &[u8], table: &mut [u8], work: &mut [u8]) -> Result<usize,
     })
 }
 
-/// Judges a converter against a design.
+/// Judges a converter against a design: lend [`CELL`] bytes of work for each record.
 pub fn judge(design: &[u8], converter: &[u8], work: &mut [u8]) -> Result<(), Refused> {
     // SAFETY: as above; the design and the converter are only read.
     answer(unsafe {
@@ -103,7 +113,7 @@ pub fn judge(design: &[u8], converter: &[u8], work: &mut [u8]) -> Result<(), Ref
     .map(|_| ())
 }
 
-/// Writes a converter as blocks. The count of blocks.
+/// Writes a converter as blocks: lend [`BLOCK`] bytes for each 14 records or part of them. The count of blocks.
 pub fn write(converter: &[u8], blocks: &mut [u8]) -> Result<usize, Refused> {
     // SAFETY: as above.
     answer(unsafe {
@@ -111,7 +121,7 @@ pub fn write(converter: &[u8], blocks: &mut [u8]) -> Result<usize, Refused> {
     })
 }
 
-/// Reads a converter from blocks. The count of records.
+/// Reads a converter from blocks: lend [`RECORD`] bytes for each record. The count of records.
 pub fn read(blocks: &[u8], converter: &mut [u8]) -> Result<usize, Refused> {
     // SAFETY: as above.
     answer(unsafe {
@@ -119,9 +129,9 @@ pub fn read(blocks: &[u8], converter: &mut [u8]) -> Result<usize, Refused> {
     })
 }
 
-/// One tick of a converter.
+/// One tick of a converter: each side shows the event that it sends, or 0. Afterwards the runner holds the next record and the events to deliver.
 pub fn tick(converter: &[u8], runner: &mut Runner, shown: [i8; 2]) -> Result<(), Refused> {
-    // SAFETY: as above; `Runner` has the layout of the header's struct.
+    // SAFETY: as above; `Runner` has the layout and the alignment of the header's struct.
     answer(unsafe {
         gorzhani_tick(converter.as_ptr(), converter.len(), runner, shown[0], shown[1])
     })

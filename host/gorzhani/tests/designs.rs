@@ -5,8 +5,9 @@ mod common;
 
 use checker::brute::{try_all, Outcome};
 use checker::bytes::{converter_bytes, positions, seal, Design, Formula};
-use checker::generate::{any_design, damage, design, ruled_design, Random, Shape};
-use common::{about, found, judge_agrees, search_agrees, size, Answers};
+use checker::generate::{any_design, damage, progress_design, ruled_design, Random, Shape};
+use checker::none::no_converter;
+use common::{about, found, judge_agrees, mixed_design, search_agrees, size, Answers};
 use gorzhani::{CELL, RECORD};
 
 /// Searches with lengths that are mostly enough.
@@ -22,14 +23,8 @@ fn sound() {
     let mut random = Random::new(101);
     let mut answers = Answers::default();
     for round in 0..24_000 {
-        let made = match round % 6 {
-            0 => any_design(&mut random),
-            1 => design(&mut random, &Shape::FULL),
-            2 => ruled_design(&mut random, &Shape { formulas: 20, rules: 5, ..Shape::SMALL }),
-            3 => ruled_design(&mut random, &Shape::SMALL),
-            _ => ruled_design(&mut random, &Shape::TINY),
-        };
-        answers.count(search_about(&mut random, &made.to_bytes()));
+        let bytes = mixed_design(&mut random, round).to_bytes();
+        answers.count(search_about(&mut random, &bytes));
     }
     answers.are(&[0, 9, 12, 13, 16], 500);
 }
@@ -44,6 +39,30 @@ fn damaged() {
         answers.count(search_about(&mut random, &bytes));
     }
     answers.are(&[0, 1, 2, 3, 4, 5, 6, 7, 8, 9, 12, 13, 16], 50);
+}
+
+/// The library says "none" exactly where the tableau does, which plays no game.
+#[test]
+fn none_by_the_tableau() {
+    let mut random = Random::new(104);
+    let mut answers = Answers::default();
+    for round in 0..8_000 {
+        let shape = if round % 4 < 2 { Shape::TINY } else { Shape::SMALL };
+        let made = if round % 2 == 0 {
+            ruled_design(&mut random, &shape)
+        } else {
+            progress_design(&mut random, &shape)
+        };
+        if positions(&made) > 1 << 11 {
+            continue;
+        }
+        let bytes = made.to_bytes();
+        let lent = size(&bytes, 1 << 11);
+        let answer = search_agrees(&bytes, RECORD * lent, CELL * lent);
+        assert_eq!(answer == 16, no_converter(&made), "{made:?}");
+        answers.count(answer);
+    }
+    answers.are(&[0, 16], 1_500);
 }
 
 /// A design with every kind of state and of formula.

@@ -21,11 +21,10 @@ fn examples() {
             continue;
         }
         let design = fs::read(&path).expect("the design can be read");
-        let beside = fs::read(path.with_extension("converter")).expect("a file stands beside it");
         let mut table = vec![0; RECORD * POSITIONS];
         let answer = gorzhani::search(&design, &mut table, &mut vec![0; CELL * POSITIONS]);
-        if beside == b"refused 16\n" {
-            assert_eq!(answer, Err(Refused(16)), "{path:?}");
+        if let Ok(line) = fs::read(path.with_extension("refused")) {
+            assert_eq!((answer, &line[..]), (Err(Refused(16)), &b"refused 16\n"[..]), "{path:?}");
             none += 1;
             continue;
         }
@@ -33,6 +32,7 @@ fn examples() {
         let shown = &table[..RECORD * records];
         let mut blocks = vec![0; BLOCK * records.div_ceil(14)];
         assert_eq!(gorzhani::write(shown, &mut blocks), Ok(blocks.len() / BLOCK));
+        let beside = fs::read(path.with_extension("converter")).expect("a file stands beside it");
         assert!(blocks == beside, "{path:?} is shown with another converter");
         let judged = gorzhani::judge(&design, shown, &mut vec![0; CELL * records]);
         assert_eq!(judged, Ok(()), "{path:?}");

@@ -1,8 +1,6 @@
 //! What a converter found looks like. The specification leaves it open; its
 //! readers expect every record to be reached, breadth first, and few of them.
 
-// Each test file uses some of the samples.
-#[allow(dead_code)]
 #[path = "../../checker/tests/samples/mod.rs"]
 mod samples;
 

@@ -52,7 +52,7 @@ fn graph(random: &mut Random, places: usize) -> Vec<Vec<usize>> {
         3 if random.once_in(8) => vec![last.min(at + 1), random.below(places)],
         3 => vec![last.min(at + 1)],
         // Loops one inside the other: odd places go back past the even one before.
-        4 if at % 2 == 0 => vec![last.min(at + 2), last.min(at + 1)],
+        4 if at.is_multiple_of(2) => vec![last.min(at + 2), last.min(at + 1)],
         4 => vec![at.saturating_sub(3)],
         // Whatever it be.
         _ => (0..random.from_to(1, 3)).map(|_| random.below(places)).collect(),

@@ -1,6 +1,9 @@
 //! The convert program: what it writes for a design on standard input is what search and writer
 //! give, and what the second checker takes.
 
+#[path = "../../checker/tests/samples/mod.rs"]
+mod samples;
+
 use std::io::{Read, Write};
 use std::path::Path;
 use std::process::{Command, Stdio};
@@ -91,6 +94,13 @@ fn handshake() {
     let read = |name| std::fs::read(beside(name)).expect("the program has such a file");
     assert_eq!(convert_agrees(&read("stdin")), 0);
     assert_eq!(written(&[&read("stdin")]), read("stdout"));
+}
+
+/// The specification's example of a refusal: the handshake pair H with the rule A(true U 1).
+#[test]
+fn no_converter() {
+    let formulas = vec![Formula::True, Formula::Proposition(1), Formula::Until(0, 1)];
+    assert_eq!(written(&[&samples::handshake(formulas, vec![2]).to_bytes()]), b"refused 16\n");
 }
 
 #[test]

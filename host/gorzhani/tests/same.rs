@@ -5,8 +5,8 @@
 mod common;
 
 use checker::bytes::positions;
-use checker::generate::{any_design, ruled_design, Random, Shape};
-use common::{about, size, Answers};
+use checker::generate::{ruled_design, Random, Shape};
+use common::{about, mixed_design, size, Answers};
 use gorzhani::{Refused, CELL, RECORD};
 
 /// Bytes that aren't zero.
@@ -30,13 +30,7 @@ fn random_designs() {
     let mut random = Random::new(401);
     let mut answers = Answers::default();
     for round in 0..12_000 {
-        let made = match round % 4 {
-            0 => any_design(&mut random),
-            1 => ruled_design(&mut random, &Shape::TINY),
-            2 => ruled_design(&mut random, &Shape::SMALL),
-            _ => ruled_design(&mut random, &Shape { formulas: 20, rules: 5, ..Shape::SMALL }),
-        };
-        let bytes = made.to_bytes();
+        let bytes = mixed_design(&mut random, round).to_bytes();
         let size = size(&bytes, 1 << 13);
         let table_length = about(&mut random, RECORD * size);
         let work_length = about(&mut random, CELL * size);

@@ -4,9 +4,9 @@ use Prim.Native.Nat.{_*_}
 use native.Mathlib.Omega.{arith}
 use borrow.Author.Needs.{needs}
 use lib.ListN.{length, replicate}
+use Rattle.layout.specs.Sizes.{cell-bytes}
 use Rattle.layout.specs.Bytes.{put}
 use Rattle.layout.specs.Converters.{records}
-use Rattle.judge.specs.Cells.{cell-bytes}
 use Rattle.judge.specs.Judge.{judge-refusal}
 use Rattle.judge.proofs.Judging.{Passes, passes, judge-refused, judge-no, judge-yes}
 use Rattle.judge.proofs.judge.Statement.{statement}

@@ -5,10 +5,10 @@ use Prim.Native.Nat.{_*_}
 use native.Mathlib.Omega.{arith}
 use borrow.Author.Tests.{le-leb, lt-leb}
 use borrow.Author.Needs.{needs}
+use Rattle.layout.specs.Sizes.{cell-bytes}
 use Rattle.layout.specs.Converters.{records}
-use Rattle.layout.specs.Refusals.{design-refusal, converter-refusal}
-use Rattle.layout.proofs.Accepted.{accepted}
-use Rattle.judge.specs.Cells.{cell-bytes}
+use Rattle.refusals.specs.Refusals.{design-refusal, converter-refusal}
+use Rattle.refusals.proofs.Accepted.{accepted}
 use Rattle.judge.proofs.Judging.{design-refused, converter-refused, by-room}
 use Rattle.judge.proofs.judge_refusal.Statement.{statement}
 use Rattle.judge.proofs.judge_refusal.Tie as tie

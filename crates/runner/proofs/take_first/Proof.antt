@@ -14,7 +14,7 @@ use Rattle.model.specs.Runs.{all-fit, first-fit}
 use Rattle.layout.specs.Sizes.{last-event}
 use Rattle.layout.specs.Converters.{records, converter}
 use Rattle.layout.specs.Tests.{in-range}
-use Rattle.layout.proofs.Accepted.{right-well-formed}
+use Rattle.refusals.proofs.Accepted.{right-well-formed}
 use Rattle.layout.proofs.Nodes.{WellFormedNode}
 use Rattle.layout.proofs.SignedBytes.{read-back}
 use Rattle.layout.proofs.Tables.{all-true}
@@ -77,25 +77,31 @@ side-events-requires c κs = ranged c
 fits-events-requires : tie.Need-fits-events-requires Inv-loop μ-loop
 fits-events-requires c κs = search needs
 
-array-copy-out-t15 : tie.Need-array-copy-out-t15 Inv-loop μ-loop
-array-copy-out-t15 c = search needs
+array-copy-out-moved : tie.Need-array-copy-out-moved Inv-loop μ-loop
+array-copy-out-moved c = search needs
 
-array-copy-out-t18 : tie.Need-array-copy-out-t18 Inv-loop μ-loop
-array-copy-out-t18 c = search needs
+array-copy-out-moved-2 : tie.Need-array-copy-out-moved-2 Inv-loop μ-loop
+array-copy-out-moved-2 c = search needs
+
+moved-requires : tie.Need-moved-requires Inv-loop μ-loop
+moved-requires c κs = search needs
 
 returns : tie.Need-returns Inv-loop μ-loop
 unfolding taken
 returns c =
-    let f = c .before .before .before in
+    let d = c .before in
+    let f = d .before .before .before in
     let s = f .before .before .before .before .before .before .before in
     let l = f .before .before .before .before .loop in
-    let p = l .inv .1 ∙ fits-here (s .args .shown) (here s .edges) (l .k) (there (f .before .before .before)) (sym (asked f) ∙ c .before .before .if1 .taken) in
+    let p = l .inv .1 ∙ fits-here (s .args .shown) (here s .edges) (l .k) (there (f .before .before .before)) (sym (asked f) ∙ d .before .before .if1 .taken) in
     let q = f .before .side-events .result in
     let m = made (f .before) in
     let next = ap (λ x. x .next) (f .before .before .edge-at .ensures) in
-    let first = read-back (getD q 0 tick) (c .before .t15 .given) ∙ ap (λ es. getD es 0 tick) m in
-    let second = read-back (getD q 1 tick) (c .t18 .given) ∙ ap (λ es. getD es 1 tick) m in
-    (λ i. record { answer = Done; runner = record { «record» = next i; first = first i; second = second i } }) ∙ sym (ap (taken (s .args .runner)) p)
+    let first = read-back (getD q 0 tick) (d .before .moved-arg .given) ∙ ap (λ es. getD es 0 tick) m in
+    let second = read-back (getD q 1 tick) (d .moved-arg2 .given) ∙ ap (λ es. getD es 1 tick) m in
+    ap (λ r. record { answer = Done; runner = r }) (c .moved .ensures)
+    ∙ (λ i. record { answer = Done; runner = record { «record» = next i; first = first i; second = second i } })
+    ∙ sym (ap (taken (s .args .runner)) p)
 
 add-k : tie.Need-add-k Inv-loop μ-loop
 add-k c = search needs
@@ -131,8 +137,9 @@ take-first-spec =
     edge-at-requires
     side-events-requires
     fits-events-requires
-    array-copy-out-t15
-    array-copy-out-t18
+    array-copy-out-moved
+    array-copy-out-moved-2
+    moved-requires
     returns
     add-k
     loop-less

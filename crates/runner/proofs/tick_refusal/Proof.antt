@@ -8,7 +8,7 @@ use borrow.Author.Tests.{not-true, not-false, le-ltb, lt-ltb}
 use lib.Dec.{ltb}
 use Rattle.layout.specs.Sizes.{record-bytes}
 use Rattle.layout.specs.Converters.{records}
-use Rattle.layout.specs.Refusals.{first-failing, size-right, record-right}
+use Rattle.refusals.specs.Refusals.{first-failing, size-right, record-right}
 use Rattle.runner.specs.Ticks.{tick-refusal}
 use Rattle.runner.proofs.tick_refusal.Statement.{statement}
 use Rattle.runner.proofs.tick_refusal.Tie as tie

@@ -91,7 +91,7 @@ pub struct Design {
 }
 
 impl Design {
-    /// The formulas that the scope paper calls kept: kind 8, kind 9, the
+    /// The formulas that the specification calls kept: kind 8, kind 9, the
     /// operand of some kind 7, or a rule.
     pub fn kept(&self) -> BTreeSet<usize> {
         let mut kept: BTreeSet<usize> = self.rules.iter().map(|&r| usize::from(r)).collect();

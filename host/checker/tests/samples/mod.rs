@@ -1,5 +1,5 @@
-//! The designs and converters of the scope paper's rows, and calls that hold
-//! every lent byte against what the paper says of it.
+//! The designs and converters of the specification's rows, and calls that hold
+//! every lent byte against what the specification says of it.
 
 // Each test file uses some of these.
 #![allow(dead_code)]
@@ -60,7 +60,7 @@ fn rule(formulas: &mut Vec<Formula>, a: u8, b: u8, c: (u8, bool), d: (u8, bool))
     (at + 8) as u8
 }
 
-/// The source paper's four rules, the fourth as printed or as its words say.
+/// The paper's four rules, the fourth as printed or as its words say.
 pub fn four_rules(as_printed: bool) -> (Vec<Formula>, Vec<u8>) {
     let mut formulas = Vec::new();
     let rules = vec![
@@ -104,6 +104,18 @@ pub fn next_zero_next_one() -> Vec<Formula> {
     vec![Formula::Proposition(0), Formula::Proposition(1), Formula::Next(0), Formula::Next(1)]
 }
 
+/// One input state that reads 1 to 3 and goes to the state of that number;
+/// state n has label n - 1, and each comes back to state 0 by a tick.
+pub fn hub(formulas: Vec<Formula>, rules: Vec<u8>) -> Design {
+    let hub = vec![
+        state(&[], &[(1, 1), (2, 2), (3, 3)]),
+        state(&[0], &[(0, 0)]),
+        state(&[1], &[(0, 0)]),
+        state(&[2], &[(0, 0)]),
+    ];
+    Design { sides: [vec![state(&[], &[(0, 0)])], hub], formulas, rules }
+}
+
 /// Two rings of sixteen states, each of which ticks on or reads 1 and stays.
 /// State 15 has label 0 on side 1 and label 1 on side 2. Eight formulas are
 /// kept: 2, 3, 4, 5, 6, 8, 11 and 15.
@@ -141,7 +153,7 @@ pub fn pattern(length: usize) -> Vec<u8> {
 /// Bytes lent beyond those demanded.
 pub const BEYOND: usize = 53;
 
-/// Judges, and holds every byte of work against the paper.
+/// Judges, and holds every byte of work against the specification.
 pub fn judged(design: &[u8], converter: &[u8], work_length: usize) -> Result<(), u8> {
     let mut work = pattern(work_length);
     let answer = checker::judge(design, converter, &mut work);
@@ -159,7 +171,7 @@ pub fn judged_well(design: &Design, converter: &[u8]) -> Result<(), u8> {
 }
 
 /// Searches with the demanded lengths and some bytes beyond, and holds every
-/// lent byte against the paper. A converter found is matched and keeps the rules.
+/// lent byte against the specification. A converter found is matched and keeps the rules.
 pub fn searched(design: &Design) -> Result<Vec<Record>, u8> {
     let positions = usize::try_from(positions(design)).unwrap();
     let (table_length, work_length) = (36 * positions + BEYOND, 16 * positions + BEYOND);

@@ -4,8 +4,8 @@
 // Each test file uses some of these.
 #![allow(dead_code)]
 
-use checker::bytes::{positions, read_blocks, read_design, write_blocks};
-use checker::generate::Random;
+use checker::bytes::{positions, read_blocks, read_design, write_blocks, Design};
+use checker::generate::{any_design, design, ruled_design, Random, Shape};
 use gorzhani::{Refused, Runner, BLOCK, CELL, RECORD};
 
 const GUARD: usize = 64;
@@ -65,6 +65,17 @@ struct GuardedRunner {
     after: [u8; 16],
 }
 
+/// A sound design, of another sort from round to round.
+pub fn mixed_design(random: &mut Random, round: usize) -> Design {
+    match round % 6 {
+        0 => any_design(random),
+        1 => design(random, &Shape::FULL),
+        2 => ruled_design(random, &Shape { formulas: 20, rules: 5, ..Shape::SMALL }),
+        3 => ruled_design(random, &Shape::SMALL),
+        _ => ruled_design(random, &Shape::TINY),
+    }
+}
+
 /// A length that is mostly enough, at times one short, at times more.
 pub fn about(random: &mut Random, enough: usize) -> usize {
     match random.below(12) {
@@ -107,13 +118,38 @@ fn number<T>(answer: Result<T, Refused>) -> u8 {
     answer.err().map_or(0, |Refused(number)| number)
 }
 
+/// A constant of the C header.
+pub fn header(name: &str) -> usize {
+    let text = include_str!("../../../../include/gorzhani.h");
+    let value = text.lines().find_map(|line| {
+        let (left, right) = line.trim().trim_end_matches(',').split_once(" = ")?;
+        (left == name).then_some(right)
+    });
+    let value = value.unwrap_or_else(|| panic!("the header has no {name}"));
+    value.parse().unwrap_or_else(|_| panic!("{name} = {value} is no number"))
+}
+
 /// The positions of the design that these bytes spell, at most `most`.
 pub fn size(bytes: &[u8], most: usize) -> usize {
     read_design(bytes).map_or(4, |design| positions(&design).min(most as u128) as usize)
 }
 
+/// Counts the positions by both.
+pub fn positions_agrees(bytes: &[u8]) -> u8 {
+    let design = Lent::holding(bytes);
+    let answer = gorzhani::positions(design.part());
+    let other = read_design(bytes).and_then(|design| match positions(&design) {
+        count @ ..=65_536 => Ok(count as usize),
+        _ => Err(9),
+    });
+    assert!(design.untouched());
+    assert_eq!(answer.map_err(|Refused(number)| number), other, "{:?}", read_design(bytes));
+    number(answer)
+}
+
 /// Searches by both with lent buffers of these lengths.
 pub fn search_agrees(bytes: &[u8], table_length: usize, work_length: usize) -> u8 {
+    positions_agrees(bytes);
     let design = Lent::holding(bytes);
     let (mut table, mut work) = (Lent::new(table_length), Lent::new(work_length));
     let answer = gorzhani::search(design.part(), table.part_mut(), work.part_mut());
@@ -172,30 +208,35 @@ pub fn judge_agrees(bytes: &[u8], converter: &[u8], work_length: usize) -> u8 {
     number(answer)
 }
 
+/// A call that reads some bytes and writes others, and answers how many parts it wrote.
+type Copying<Refusal> = fn(&[u8], &mut [u8]) -> Result<usize, Refusal>;
+
+/// Calls both with a lent result of this length. A part that is written has `size` bytes.
+fn copying_agrees(
+    (library, checker): (Copying<Refused>, Copying<u8>),
+    bytes: &[u8],
+    length: usize,
+    size: usize,
+) -> u8 {
+    let lent = Lent::holding(bytes);
+    let mut result = Lent::new(length);
+    let answer = library(lent.part(), result.part_mut());
+    let mut other_result = vec![0; length];
+    let other = checker(bytes, &mut other_result);
+    assert!(lent.untouched());
+    assert_eq!(answer.map_err(|Refused(number)| number), other, "{bytes:?}");
+    assert!(result.holds(&other_result[..size * other.unwrap_or(0)]));
+    number(answer)
+}
+
 /// Writes by both to a lent result of this length.
 pub fn write_agrees(converter: &[u8], length: usize) -> u8 {
-    let lent = Lent::holding(converter);
-    let mut blocks = Lent::new(length);
-    let answer = gorzhani::write(lent.part(), blocks.part_mut());
-    let mut other_blocks = vec![0; length];
-    let other = write_blocks(converter, &mut other_blocks);
-    assert!(lent.untouched());
-    assert_eq!(answer.map_err(|Refused(number)| number), other, "{converter:?}");
-    assert!(blocks.holds(&other_blocks[..BLOCK * other.unwrap_or(0)]));
-    number(answer)
+    copying_agrees((gorzhani::write, write_blocks), converter, length, BLOCK)
 }
 
 /// Reads by both to a lent result of this length.
 pub fn read_agrees(file: &[u8], length: usize) -> u8 {
-    let lent = Lent::holding(file);
-    let mut memory = Lent::new(length);
-    let answer = gorzhani::read(lent.part(), memory.part_mut());
-    let mut other_memory = vec![0; length];
-    let other = read_blocks(file, &mut other_memory);
-    assert!(lent.untouched());
-    assert_eq!(answer.map_err(|Refused(number)| number), other, "{file:?}");
-    assert!(memory.holds(&other_memory[..RECORD * other.unwrap_or(0)]));
-    number(answer)
+    copying_agrees((gorzhani::read, read_blocks), file, length, RECORD)
 }
 
 /// One tick by both, from the same runner.

@@ -1,0 +1,118 @@
+-- The file of a converter that isn't refused, block by block.
+use mathlib.Core.Path.{_≡_, refl, sym, ap, ap₂, _∙_}
+use mathlib.Core.List.{List, _∷_, _++_, flatten}
+use Prim.Native.Nat.{ℕ, zero, suc, _+_, _-_, _*_, _≤_, _<_, min}
+use native.Mathlib.Numerals.{add-one}
+use native.Mathlib.Decide.{ℕ-discrete, decLt}
+use native.Mathlib.Nat.{not-suc-le-zero}
+use native.Mathlib.Omega.{arith}
+use lib.ListN.{length, take, drop, replicate, length-drop, length-append}
+use lib.Seq.{take-all, drop-at, drop-append-le, take-append-le}
+use Rattle.layout.specs.Sizes.{record-bytes, block-records, block-record-bytes, block-bytes}
+use Rattle.layout.specs.Tables.{table, table-from}
+use Rattle.layout.specs.Bytes.{part, check, word-bytes, put}
+use Rattle.layout.specs.Blocks.{sealed}
+use Rattle.layout.specs.Converters.{records}
+use Rattle.files.specs.Files.{converter-kind, blocks-for, written-block}
+use Rattle.layout.proofs.Parts.{length-part}
+use Rattle.layout.proofs.Put.{put-behind}
+use Rattle.layout.proofs.Pieces.{pieces-more}
+use Rattle.files.proofs.Sealed.{length-sealed, put-sealed}
+use Rattle.refusals.proofs.Accepted.{Accepted}
+
+module _ (cs : List ℕ) (a : Accepted cs) (k : ℕ) (h : k < blocks-for (records cs)) where
+  -- how many records block k holds
+  abbrev pub held : ℕ
+  held = min block-records (records cs - block-records * k)
+
+  -- and which they are
+  pub block-part : part cs (block-record-bytes * k) block-record-bytes ≡ part cs (record-bytes * (block-records * k)) (record-bytes * held)
+  block-part = ap (λ i. part cs i 504) e ∙ by (decLt (records cs) (14 * k + 14))
+    where
+      w : length cs ≡ record-bytes * records cs
+      w = a .whole
+
+      e : 504 * k ≡ 36 * (14 * k)
+      e = omega arith
+
+      by : Dec (records cs < 14 * k + 14) → part cs (36 * (14 * k)) 504 ≡ part cs (36 * (14 * k)) (36 * held)
+      by (yes l) =
+          take-all 504 (drop (36 * (14 * k)) cs) (omega (arith, length-drop (36 * (14 * k)) cs))
+          ∙ sym (take-all (36 * held) (drop (36 * (14 * k)) cs) (omega (arith, length-drop (36 * (14 * k)) cs)))
+      by (no l) = let u : 504 ≡ 36 * held = omega arith in ap (part cs (36 * (14 * k))) u
+
+  pub length-block-part : length (part cs (record-bytes * (block-records * k)) (record-bytes * held)) ≡ record-bytes * held
+  length-block-part = let w = a .whole in length-part cs (record-bytes * (block-records * k)) (record-bytes * held) (omega arith)
+
+  pub length-written-block : length (written-block cs k) ≡ block-bytes
+  unfolding written-block
+  length-written-block = length-sealed converter-kind held (block-records * k) (part cs (block-record-bytes * k) block-record-bytes) (omega (arith, ap length block-part, length-block-part))
+
+  -- the steps that write it
+  pub put-block : (bs l1 l2 l3 l4 : List ℕ) (count : ℕ) → block-bytes * k + block-bytes ≤ length bs → count ≡ held
+      → l1 ≡ put bs (block-bytes * k) (converter-kind ∷ count ∷ word-bytes (block-records * k))
+      → l2 ≡ put l1 (block-bytes * k + 4) (part cs (record-bytes * (block-records * k)) (record-bytes * count))
+      → l3 ≡ put l2 (block-bytes * k + 4 + record-bytes * count) (replicate (506 - record-bytes * count) 0)
+      → l4 ≡ put l3 (block-bytes * k + 510) (word-bytes (check (part l3 (block-bytes * k) 510)))
+      → l4 ≡ put bs (block-bytes * k) (written-block cs k)
+  unfolding written-block
+  put-block bs l1 l2 l3 l4 count room c e1 e2 e3 e4 =
+      let at = block-bytes * k in
+      let w = word-bytes (block-records * k) in
+      let from = record-bytes * (block-records * k) in
+      let rs = part cs from (record-bytes * held) in
+      let e : l3 ≡ put (put (put bs at (converter-kind ∷ held ∷ w)) (at + 4) rs) (at + 4 + length rs) (replicate (506 - length rs) 0) =
+      e3
+      ∙ ap (λ l. put l (at + 4 + record-bytes * count) (replicate (506 - record-bytes * count) 0)) (e2 ∙ ap (λ l. put l (at + 4) (part cs from (record-bytes * count))) e1)
+      ∙ ap (λ n. put (put (put bs at (converter-kind ∷ n ∷ w)) (at + 4) (part cs from (record-bytes * n))) (at + 4 + record-bytes * n) (replicate (506 - record-bytes * n) 0)) c
+      ∙ ap (λ n. put (put (put bs at (converter-kind ∷ held ∷ w)) (at + 4) rs) (at + 4 + n) (replicate (506 - n) 0)) (sym length-block-part) in
+      e4
+      ∙ ap (λ l. put l (at + 510) (word-bytes (check (part l at 510)))) e
+      ∙ put-sealed converter-kind held (block-records * k) rs (omega (arith, length-block-part)) bs at room
+      ∙ ap (λ r. put bs at (sealed converter-kind held (block-records * k) r)) (sym block-part)
+
+-- ---- the first k blocks
+module _ (cs : List ℕ) where
+  abbrev pub first-blocks : ℕ → List ℕ
+  first-blocks k = flatten (table k (written-block cs))
+
+  module _ (a : Accepted cs) where
+    pub length-first-blocks : (k : ℕ) → k ≤ blocks-for (records cs) → length (first-blocks k) ≡ block-bytes * k
+    unfolding table table-from flatten
+    length-first-blocks zero h = refl
+    length-first-blocks (suc k) h =
+        ap (λ n. length (first-blocks n)) (sym (add-one k))
+        ∙ ap length (pieces-more (written-block cs) k)
+        ∙ length-append (first-blocks k) (written-block cs k)
+        ∙ ap₂ _+_ (length-first-blocks k (omega arith)) (length-written-block cs a k (omega arith))
+        ∙ omega arith
+
+    -- one more, put behind them
+    pub put-next-block : (bs : List ℕ) (k : ℕ) → k < blocks-for (records cs) → block-bytes * k + block-bytes ≤ length bs
+        → put (put bs 0 (first-blocks k)) (block-bytes * k) (written-block cs k) ≡ put bs 0 (first-blocks (k + 1))
+    put-next-block bs k h room =
+        let z : block-bytes * k ≡ 0 + block-bytes * k = omega arith in
+        ap (λ i. put (put bs 0 (first-blocks k)) i (written-block cs k)) z
+        ∙ put-behind (first-blocks k) (written-block cs k) bs 0 (block-bytes * k) (length-first-blocks k (omega arith)) (omega (arith, length-written-block cs a k h))
+        ∙ ap (put bs 0) (sym (pieces-more (written-block cs) k))
+
+    -- block k among the first m
+    pub block-of : (m k : ℕ) → k < m → m ≤ blocks-for (records cs) → part (first-blocks m) (block-bytes * k) block-bytes ≡ written-block cs k
+    block-of zero k h l = absurd (not-suc-le-zero h)
+    block-of (suc m) k h l =
+        ap (λ n. part (first-blocks n) (block-bytes * k) block-bytes) (sym (add-one m))
+        ∙ ap (λ f. part f (block-bytes * k) block-bytes) (pieces-more (written-block cs) m)
+        ∙ by (ℕ-discrete k m) (λ (u : k < m). block-of m k u (omega arith))
+      where
+        by : Dec (k ≡ m) → (k < m → part (first-blocks m) (block-bytes * k) block-bytes ≡ written-block cs k)
+            → part (first-blocks m ++ written-block cs m) (block-bytes * k) block-bytes ≡ written-block cs k
+        by (yes e) rec =
+            ap (λ j. part (first-blocks m ++ written-block cs m) (block-bytes * j) block-bytes) e
+            ∙ ap (take block-bytes) (drop-at (first-blocks m) (written-block cs m) (block-bytes * m) (length-first-blocks m (omega arith)))
+            ∙ take-all block-bytes (written-block cs m) (omega (arith, length-written-block cs a m (omega arith)))
+            ∙ ap (written-block cs) (sym e)
+        by (no n) rec =
+            let f = length-first-blocks m (omega arith) in
+            ap (take block-bytes) (drop-append-le (block-bytes * k) (first-blocks m) (written-block cs m) (omega arith))
+            ∙ take-append-le block-bytes (drop (block-bytes * k) (first-blocks m)) (written-block cs m) (omega (arith, length-drop (block-bytes * k) (first-blocks m)))
+            ∙ rec (omega arith)

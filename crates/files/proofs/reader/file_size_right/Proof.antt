@@ -1,0 +1,31 @@
+-- `files::file_size_right` meets its contract, test by test.
+use Prim.Native.Nat.{_%_}
+use native.Mathlib.Omega.{arith}
+use borrow.Author.Tests.{le-leb, lt-leb, eq-eqb, ne-eqb}
+use lib.ListN.{length}
+use Rattle.files.specs.FileRefusals.{file-size-right}
+use borrow.Author.Needs.{needs}
+use Rattle.files.proofs.reader.file_size_right.Statement.{statement}
+use Rattle.files.proofs.reader.file_size_right.Tie as tie
+
+returns : tie.Need-returns
+unfolding file-size-right
+returns c = rw (lt-leb 1 (length (c .before .before .args .s .now)) (omega arith))
+
+returns-2 : tie.Need-returns-2
+unfolding file-size-right
+returns-2 c =
+    let l = length (c .before .before .before .args .s .now) in
+    rw (le-leb 1 l (omega arith), ne-eqb (l % 512) 0 (c .if2 .taken))
+
+block-count-requires : tie.Need-block-count-requires
+block-count-requires c κs = search needs
+
+returns-3 : tie.Need-returns-3
+unfolding file-size-right
+returns-3 c =
+    let l = length (c .before .before .before .before .args .s .now) in
+    rw (le-leb 1 l (omega arith), eq-eqb (l % 512) 0 (omega arith), c .block-count .ensures)
+
+pub file-size-right-spec : {M : Type 1} → statement M
+file-size-right-spec = tie.close (tie.spec returns returns-2 block-count-requires returns-3)

@@ -1,0 +1,151 @@
+-- What a number means to a caller in C, for every input and from the call's promise alone (`Calls`): when the judge's is 0, -14 or -15; when the search's is -16,
+-- and what stands in the table where it is a count; when the tick's is 0; when the writer's, the block reader's and that of `gorzhani_positions` are counts; and how
+-- much a search is lent that no refusal comes before its decision.
+use mathlib.Core.Path.{_≡_, refl, ap, _∙_}
+use mathlib.Core.List.{List}
+use mathlib.Core.Logic.{_↔_, Iff·trans, _⊎_, inl, inr}
+use Prim.Native.Nat.{ℕ, _*_, _≤_, _<_}
+use native.Mathlib.Omega.{arith}
+use borrow.Author.Tests.{le-leb}
+use lib.IntN.{ℤ, pos}
+use lib.ListN.{length, take}
+use Rattle.model.specs.Events.{Event}
+use Rattle.model.specs.Converters.{Matched}
+use Rattle.model.specs.Designs.{Works, NoneWorks}
+use Rattle.model.specs.Positions.{positions}
+use Rattle.model.proofs.Judged.{FailsRule}
+use Rattle.files.specs.declared.answers.Written.the-variants as written
+use Rattle.files.specs.declared.answers.Read.the-variants as read
+use Rattle.layout.specs.Sizes.{record-bytes, most-positions, cell-bytes}
+use Rattle.layout.specs.Bytes.{put}
+use Rattle.layout.specs.Designs.{design}
+use Rattle.layout.specs.Converters.{records, converter}
+use Rattle.files.specs.Files.{file-count, file-records, blocks-for, written}
+use Rattle.refusals.specs.Refusals.{first-failing}
+use Rattle.files.specs.FileRefusals.{write-refusal, read-refusal}
+use Rattle.refusals.proofs.Accepted.{accepted}
+use Rattle.search.specs.Search.{search-refusal, Finding, declined, none, found, answer-of, Searches}
+use Rattle.search.proofs.Answers.{FoundIn, none-exactly, found-in}
+use Rattle.search.proofs.Refused as refused
+use Rattle.judge.specs.Judge.{judge-refusal, judge-answer, Judges}
+use Rattle.judge.proofs.Promise.{says-yes, says-unmatched, says-violated}
+use Rattle.runner.specs.declared.Runner.{Runner}
+use Rattle.runner.specs.declared.Answer.the-variants.{Done, Refused}
+use Rattle.runner.specs.Ticks.{ticked}
+use Rattle.runner.proofs.Refusals.{refused-unchanged}
+use Rattle.gorzhani.specs.Codes.{refusal-code, search-code, write-code, read-code}
+use Rattle.gorzhani.specs.Calls.{positions-refusal, positions-number, SearchCall, JudgeCall, WriteCall, ReadCall, TickCall}
+use Rattle.gorzhani.proofs.ByRefusal.{where-none, where-some}
+use Rattle.gorzhani.proofs.Apart.{counts-exactly, search-finds, search-declines, judge-accepts, judge-declines, tick-does, tick-declines}
+use Rattle.gorzhani.proofs.Positions.{taken, some-position, number-taken, number-refused}
+
+-- ---- the judge
+module _ {ds cs work work′ : List ℕ} {r : ℤ} (J : JudgeCall ds cs work r work′) where
+  -- what the judge itself promises
+  judges : Judges ds cs work (judge-answer ds cs (length work)) work′
+  judges = record { answers = refl; leaves = J .leaves-work }
+
+  -- 0: nothing is refused, and the converter works
+  pub judge-yes : (r ≡ pos 0) ↔ ((judge-refusal ds cs (length work) ≡ 0) × Works (design ds) (converter cs))
+  judge-yes = Iff·trans (judge-accepts J) (says-yes ds cs work work′ _ judges)
+
+  -- -14: it isn't matched
+  pub judge-unmatched : (r ≡ refusal-code 14) ↔ ((judge-refusal ds cs (length work) ≡ 0) × (Matched (design ds .sides) (converter cs) → ⊥))
+  judge-unmatched = Iff·trans (judge-declines J 14 (omega arith)) (says-unmatched ds cs work work′ _ judges)
+
+  -- -15: it is matched, and fails a rule
+  pub judge-violated : (r ≡ refusal-code 15) ↔ ((judge-refusal ds cs (length work) ≡ 0) × (Matched (design ds .sides) (converter cs) × FailsRule (design ds) (converter cs)))
+  judge-violated = Iff·trans (judge-declines J 15 (omega arith)) (says-violated ds cs work work′ _ judges)
+
+-- ---- the search
+module _ {ds table work table′ work′ : List ℕ} {r : ℤ} (S : SearchCall ds table work r table′ work′) where
+  -- what the search itself promises
+  searches : Searches ds table work (answer-of (S .finding)) table′ work′
+  searches = record { finding = S .finding; answers = refl; leaves-table = S .leaves-table; leaves-work = S .leaves-work }
+
+  -- -16: nothing else is refused, and every matched converter of any size fails some rule
+  pub search-none : (r ≡ refusal-code 16) ↔ ((search-refusal ds (length table) (length work) ≡ 0) × NoneWorks (design ds))
+  search-none = Iff·trans (search-declines S 16 (omega arith)) (none-exactly ds table work _ table′ work′ searches)
+
+  -- a count n: it is at least 1, and the first n records of the table are a converter that works
+  pub search-found : (n : ℕ) → r ≡ pos n → (1 ≤ n) × FoundIn ds table′ n
+  search-found n e =
+      let f = found-in ds table work _ table′ work′ searches n (search-finds S n .0 e) in
+      (omega (arith, f .counts, accepted (take (record-bytes * n) table′) (f .right) .some-record), f)
+
+  -- where nothing is refused, it is one of the two
+  pub search-decides : search-refusal ds (length table) (length work) ≡ 0 → (r ≡ refusal-code 16) ⊎ ((n : ℕ) × (r ≡ pos n))
+  search-decides z = by (S .finding) (S .number)
+    where
+      by : (F : Finding (search-refusal ds (length table) (length work)) (design ds)) → r ≡ search-code (answer-of F) → (r ≡ refusal-code 16) ⊎ ((n : ℕ) × (r ≡ pos n))
+      by (declined n) e = absurd (n z)
+      by (none _ w) e = inl e
+      by (found _ cs few right works) e = inr (records cs, e)
+
+-- ---- the tick
+module _ {cs : List ℕ} {runner runner′ : Runner} {xs : List Event} {r : ℤ} (T : TickCall cs runner xs r runner′) where
+  -- 0: it is done, and the runner is the one that the tick gives
+  pub tick-done : (r ≡ pos 0) ↔ ((ticked cs runner xs .answer ≡ Done) × (runner′ ≡ ticked cs runner xs .runner))
+  tick-done = (λ e. (tick-does T .0 e, T .leaves-runner), λ p. tick-does T .1 (p .0))
+
+  -- -k: it is refused with k, and the runner is as it was
+  pub tick-refused : (k : ℕ) → 0 < k → (r ≡ refusal-code k) ↔ ((ticked cs runner xs .answer ≡ Refused k) × (runner′ ≡ runner))
+  tick-refused k h =
+      let is = tick-declines T k h in
+      (λ e. (is .0 e, T .leaves-runner ∙ refused-unchanged runner cs xs k (is .0 e)), λ p. is .1 (p .0))
+
+-- ---- the writer
+module _ {cs blocks blocks′ : List ℕ} {r : ℤ} (W : WriteCall cs blocks r blocks′) where
+  abbrev write-refused : ℕ
+  write-refused = write-refusal cs (length blocks)
+
+  -- a count: nothing is refused, and so many blocks hold the records
+  pub write-counts : (n : ℕ) → (r ≡ pos n) ↔ ((write-refusal cs (length blocks) ≡ 0) × (n ≡ blocks-for (records cs)))
+  write-counts =
+      let done = written.Blocks (blocks-for (records cs)) in
+      counts-exactly r write-refused (blocks-for (records cs))
+      (λ z. W .number ∙ ap write-code (where-none write-refused done (written.Refused write-refused) z))
+      (λ n. W .number ∙ ap write-code (where-some write-refused done (written.Refused write-refused) n))
+
+  -- then they stand at the front of what was lent
+  pub write-leaves : (n : ℕ) → r ≡ pos n → blocks′ ≡ put blocks 0 (written cs)
+  write-leaves n e = W .leaves-blocks ∙ where-none write-refused (put blocks 0 (written cs)) blocks (write-counts n .0 e .0)
+
+-- ---- the block reader
+module _ {bs lent lent′ : List ℕ} {r : ℤ} (R : ReadCall bs lent r lent′) where
+  abbrev read-refused : ℕ
+  read-refused = read-refusal bs (length lent)
+
+  pub read-counts : (n : ℕ) → (r ≡ pos n) ↔ ((read-refusal bs (length lent) ≡ 0) × (n ≡ file-count bs))
+  read-counts =
+      let done = read.Records (file-count bs) in
+      counts-exactly r read-refused (file-count bs)
+      (λ z. R .number ∙ ap read-code (where-none read-refused done (read.Refused read-refused) z))
+      (λ n. R .number ∙ ap read-code (where-some read-refused done (read.Refused read-refused) n))
+
+  pub read-leaves : (n : ℕ) → r ≡ pos n → lent′ ≡ put lent 0 (file-records bs)
+  read-leaves n e = R .leaves-converter ∙ where-none read-refused (put lent 0 (file-records bs)) lent (read-counts n .0 e .0)
+
+-- ---- the positions
+module _ (ds : List ℕ) where
+  -- a count: nothing is refused, and it is the number of positions
+  pub positions-count : (n : ℕ) → (positions-number ds ≡ pos n) ↔ ((positions-refusal ds ≡ 0) × (n ≡ positions (design ds)))
+  positions-count = counts-exactly (positions-number ds) (positions-refusal ds) (positions (design ds)) (number-taken ds) (number-refused ds)
+
+  module _ (n : ℕ) (e : positions-number ds ≡ pos n) where
+    -- from 1 to 65,536
+    pub positions-within : (1 ≤ n) × (n ≤ most-positions)
+    positions-within =
+        let p = positions-count n .0 e in
+        let a = taken ds (p .0) in
+        (omega (arith, p .1, some-position ds (a .refusal)), omega (arith, p .1, a .few))
+
+    -- a search that is lent so much for each of them is refused nothing, so it decides
+    pub lent-enough : (table work : ℕ) → record-bytes * n ≤ table → cell-bytes * n ≤ work → search-refusal ds table work ≡ 0
+    unfolding first-failing
+    lent-enough table work t w =
+        let p = positions-count n .0 e in
+        let a = taken ds (p .0) in
+        let m = positions (design ds) in
+        refused.refused-behind ds table work (a .refusal)
+        ∙ rw (le-leb m most-positions (a .few), le-leb (record-bytes * m) table (omega (arith, p .1)), le-leb (cell-bytes * m) work (omega (arith, p .1)))

@@ -1,0 +1,63 @@
+-- `gorzhani_read` meets its contract: the block reader's answer, as a number.
+use mathlib.Core.Path.{_≡_, sym, ap, _∙_}
+use native.Mathlib.Omega.{arith}
+use borrow.Author.Needs.{needs}
+use lib.IntN.{pos}
+use Rattle.gorzhani.specs.Codes.{refusal-code, read-code}
+use Rattle.gorzhani.proofs.Numbers.{read-back}
+use Rattle.gorzhani.proofs.Counts.{read-count}
+use Rattle.gorzhani.proofs.Promised.{read-promised}
+use Rattle.gorzhani.proofs.gorzhani_read.Statement.{statement}
+use Rattle.gorzhani.proofs.gorzhani_read.Tie as tie
+
+read-requires : tie.Need-read-requires
+read-requires c κs = search needs
+
+enum-known-answer : tie.Need-enum-known-answer
+enum-known-answer c = search needs
+
+counted-requires : tie.Need-counted-requires
+counted-requires c κs =
+    let told = c .before in
+    let ended = told .before .before .before .before .read in
+    omega (arith, read-count (ended .ensures) (told .answer .given .1))
+
+enum-known-answer-2 : tie.Need-enum-known-answer-2
+enum-known-answer-2 c = search needs
+
+refused-requires : tie.Need-refused-requires
+refused-requires c κs = search needs
+
+same-length : tie.Need-same-length
+same-length c = search needs
+
+returns : tie.Need-returns
+returns c =
+    let told = c .before .before in
+    let ended = told .before .before .before .before .read in
+    let number : c .counted .result ≡ pos (told .answer .given .0 .0) = c .counted .ensures in
+    read-promised (ended .ensures) (read-back (c .counted .result) (c .counted .ok) ∙ number ∙ sym (ap read-code (told .answer .given .1)))
+
+same-length-2 : tie.Need-same-length-2
+same-length-2 c = search needs
+
+returns-2 : tie.Need-returns-2
+returns-2 c =
+    let told = c .before .before in
+    let ended = told .before .before .before .before .read in
+    let number : c .refused .result ≡ refusal-code (told .answer2 .given .0 .0) = c .refused .ensures in
+    read-promised (ended .ensures) (read-back (c .refused .result) (c .refused .ok) ∙ number ∙ sym (ap read-code (told .answer2 .given .1)))
+
+pub gorzhani-read-spec : {M : Type 1} → statement M
+gorzhani-read-spec =
+    tie.close
+    (tie.spec
+    read-requires
+    enum-known-answer
+    counted-requires
+    enum-known-answer-2
+    refused-requires
+    same-length
+    returns
+    same-length-2
+    returns-2)

@@ -1,0 +1,62 @@
+-- What each call for C promises, for every input. The number r that C is answered and every lent byte after are stated by equations: the answer by the call's
+-- definition, its number by `Codes`. One thing is left open, and it is named: which converter a search finds.
+use mathlib.Core.Path.{_≡_}
+use mathlib.Core.Bool.{cond}
+use mathlib.Core.List.{List, [], _∷_, _++_}
+use Prim.Native.Nat.{ℕ}
+use lib.Dec.{eqb}
+use lib.IntN.{ℤ, pos}
+use lib.ListN.{length}
+use Rattle.model.specs.Events.{Event}
+use Rattle.model.specs.Positions.{positions}
+use Rattle.layout.specs.Designs.{design}
+use Rattle.files.specs.Files.{file-records, written}
+use Rattle.refusals.specs.Refusals.{first-failing, design-tests, positions-test}
+use Rattle.files.specs.FileRefusals.{write-refusal, read-refusal}
+use Rattle.refusals.specs.Refusals.{left-by}
+use Rattle.files.specs.Answers.{write-answer, read-answer}
+use Rattle.search.specs.Search.{search-refusal, Finding, answer-of, table-of, work-of}
+use Rattle.judge.specs.Judge.{judge-answer, judge-work}
+use Rattle.runner.specs.declared.Runner.{Runner}
+use Rattle.runner.specs.Ticks.{ticked}
+use Rattle.gorzhani.specs.Codes.{refusal-code, search-code, judge-code, write-code, read-code, tick-code}
+
+-- ---- gorzhani_positions: the positions of a design ds, or the first of 1 to 9 that refuses it
+unfoldable pub positions-refusal : List ℕ → ℕ
+positions-refusal ds = first-failing (design-tests ds ++ (positions-test ds ∷ []))
+
+abbrev pub positions-number : List ℕ → ℤ
+positions-number ds = cond (eqb (positions-refusal ds) 0) (pos (positions (design ds))) (refusal-code (positions-refusal ds))
+
+-- ---- gorzhani_search: a design ds; the table and the work before, and after
+pub record SearchCall (ds table work : List ℕ) (r : ℤ) (table′ work′ : List ℕ) : Type 0 where
+  -- declined with 1 to 13; none, 16; or a converter that works, and which one is left open
+  pub finding : Finding (search-refusal ds (length table) (length work)) (design ds)
+  -- the count of its records, or the refusal
+  pub number : r ≡ search-code (answer-of finding)
+  pub leaves-table : table′ ≡ table-of finding table
+  pub leaves-work : work′ ≡ work-of (search-refusal ds (length table) (length work)) (design ds) work
+
+-- ---- gorzhani_judge: a design ds, a converter cs; the work before, and after
+pub record JudgeCall (ds cs work : List ℕ) (r : ℤ) (work′ : List ℕ) : Type 0 where
+  -- 0 for a yes, or the refusal
+  pub number : r ≡ judge-code (judge-answer ds cs (length work))
+  pub leaves-work : work′ ≡ judge-work ds cs work
+
+-- ---- gorzhani_write: a converter cs; the bytes lent for its blocks before, and after
+pub record WriteCall (cs blocks : List ℕ) (r : ℤ) (blocks′ : List ℕ) : Type 0 where
+  -- the count of blocks, or the refusal
+  pub number : r ≡ write-code (write-answer cs (length blocks))
+  pub leaves-blocks : blocks′ ≡ left-by (write-refusal cs (length blocks)) blocks (written cs)
+
+-- ---- gorzhani_read: a file bs; the bytes lent for its converter before, and after
+pub record ReadCall (bs converter : List ℕ) (r : ℤ) (converter′ : List ℕ) : Type 0 where
+  -- the count of records, or the refusal
+  pub number : r ≡ read-code (read-answer bs (length converter))
+  pub leaves-converter : converter′ ≡ left-by (read-refusal bs (length converter)) converter (file-records bs)
+
+-- ---- gorzhani_tick: a converter cs, the events xs that the sides show; the runner before, and after
+pub record TickCall (cs : List ℕ) (runner : Runner) (xs : List Event) (r : ℤ) (runner′ : Runner) : Type 0 where
+  -- 0 for "done", or the refusal
+  pub number : r ≡ tick-code (ticked cs runner xs .answer)
+  pub leaves-runner : runner′ ≡ ticked cs runner xs .runner

@@ -1,0 +1,3 @@
+-- Labels by the kind of a formula.
+pub mod ReadyFacts
+pub mod Formed

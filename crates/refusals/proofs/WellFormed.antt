@@ -1,0 +1,139 @@
+-- Tests 5, 6 and 7 of a design's bytes say what the model's predicates say of the design that the bytes spell, and a design that is not refused is well
+-- formed.
+use mathlib.Core.Path.{_≡_, ap, subst}
+use mathlib.Core.Bool.{_&&_}
+use mathlib.Core.Logic.{_↔_, ⊎-elim}
+use mathlib.Core.List.{
+  List,
+  [],
+  _∷_,
+  List·Memᴰ as In,
+  List·Memᴰ·cases-cons as in-cases,
+  List·Memᴰ·eq-of-singleton as eq-of-singleton,
+  Memᴰ·append-left as append-left,
+}
+use Prim.Native.Nat.{ℕ, _≤_, _<_}
+use native.Mathlib.Omega.{arith}
+use lib.Dec.{T, leb, leb→le, eqb→eq}
+use lib.ListN.{length}
+use Rattle.model.specs.Sides.{Side, state, WellFormedState, HasKind, WellFormedSide}
+use Rattle.model.specs.Formulas.{Lower, Propositions}
+use Rattle.model.specs.Designs.{WellFormed}
+use Rattle.model.specs.Judged.{all}
+use Rattle.model.proofs.Bools.{and-both, both-and}
+use Rattle.model.proofs.Lists.{all-in, in-all, of-map}
+use Rattle.layout.specs.Sizes.{design-bytes}
+use Rattle.layout.specs.Blocks.{Block, kernel, host, formulas, rules, side-blocks, design-blocks, record-count, record-place}
+use Rattle.layout.specs.States.{state-at, state-of}
+use Rattle.layout.specs.Designs.{side-in, design}
+use Rattle.layout.specs.Tests.{side-right, kinds-right, forms-right, rules-right}
+use Rattle.refusals.specs.Refusals.{check-right, header-right, count-right, unused-right, kinds-known, formulas-right, design-refusal}
+use Rattle.layout.proofs.Tables.{length-table}
+use Rattle.refusals.proofs.StateTests.{side-states-formed, side-kinds-formed}
+use Rattle.refusals.proofs.FormulaTests.{formulas-formed, rules-formed}
+use Rattle.refusals.proofs.Passing.{passes}
+
+-- ---- each test by itself
+-- 5
+pub states-test : (Ss : List Side)
+    → T (all side-right Ss) ↔ ((S : Side) → In S Ss → (s : ℕ) → s < length S → WellFormedState (length S) (state S s))
+states-test Ss =
+    (λ t S i. side-states-formed S .0 (all-in side-right i t), λ f. in-all side-right Ss (λ S i. side-states-formed S .1 (f S i)))
+
+-- 6
+pub kinds-test : (Ss : List Side) → T (all kinds-right Ss) ↔ ((S : Side) → In S Ss → (s : ℕ) → s < length S → HasKind s (state S s))
+kinds-test Ss =
+    (λ t S i. side-kinds-formed S .0 (all-in kinds-right i t), λ f. in-all kinds-right Ss (λ S i. side-kinds-formed S .1 (f S i)))
+
+-- 7
+pub record FormulasRight (bs : List ℕ) : Type 0 where
+  pub known : T (kinds-known bs)
+  pub lower : Lower (design bs .forms)
+  pub propositions : Propositions (design bs .forms)
+  pub rules-there : (r : ℕ) → In r (design bs .rules) → r < length (design bs .forms)
+
+pub formulas-test : (bs : List ℕ) → T (formulas-right bs) ↔ FormulasRight bs
+unfolding formulas-right
+formulas-test bs =
+    let D = design bs in (
+      λ t. let u = and-both (kinds-known bs && forms-right (D .forms)) (rules-right (length (D .forms)) (D .rules)) t in
+          let w = and-both (kinds-known bs) (forms-right (D .forms)) (u .0) in
+          let f = formulas-formed (D .forms) .0 (w .1) in
+          record { known = w .0; lower = f .0; propositions = f .1; rules-there = rules-formed (length (D .forms)) (D .rules) .0 (u .1) },
+      λ f. both-and (kinds-known bs && forms-right (D .forms)) (rules-right (length (D .forms)) (D .rules))
+          (both-and (kinds-known bs) (forms-right (D .forms)) (f .known) (formulas-formed (D .forms) .1 (f .lower, f .propositions)))
+          (rules-formed (length (D .forms)) (D .rules) .1 (f .rules-there)),
+    )
+
+-- ---- all of them: what a design that is not refused has passed
+pub record Passed (bs : List ℕ) : Type 0 where
+  pub whole : length bs ≡ design-bytes
+  pub checks : T (all (check-right bs) design-blocks)
+  pub headers : T (all (header-right bs) design-blocks)
+  pub counts : T (all (count-right bs) design-blocks)
+  pub states : T (all side-right (design bs .sides))
+  pub kinds : T (all kinds-right (design bs .sides))
+  pub formulas : T (formulas-right bs)
+  pub unused : T (all (unused-right bs) design-blocks)
+
+pub passed : (bs : List ℕ) → design-refusal bs ≡ 0 → Passed bs
+unfolding design-refusal
+passed bs e =
+    let a = passes _ _ (omega arith) e in
+    let b = passes _ _ (omega arith) (a .1) in
+    let c = passes _ _ (omega arith) (b .1) in
+    let d = passes _ _ (omega arith) (c .1) in
+    let f = passes _ _ (omega arith) (d .1) in
+    let g = passes _ _ (omega arith) (f .1) in
+    let h = passes _ _ (omega arith) (g .1) in
+    let i = passes _ _ (omega arith) (h .1) in
+    record {
+      whole = eqb→eq (length bs) design-bytes (a .0);
+      checks = b .0;
+      headers = c .0;
+      counts = d .0;
+      states = f .0;
+      kinds = g .0;
+      formulas = h .0;
+      unused = i .0;
+    }
+
+-- ---- the limits of a side
+side-limits : (b : Block) → In b side-blocks → (b .least ≡ 1) × (b .most ≡ 16)
+side-limits b i =
+    ⊎-elim
+    (λ (e : b ≡ kernel). (ap (λ (x : Block). x .least) e, ap (λ (x : Block). x .most) e))
+    (λ (j : In b (host ∷ [])). let e = eq-of-singleton j in (ap (λ (x : Block). x .least) e, ap (λ (x : Block). x .most) e))
+    (in-cases i)
+
+length-side : (bs : List ℕ) (b : Block) → length (side-in bs b) ≡ record-count bs b
+unfolding side-in
+length-side bs b = length-table (λ k. state-of (state-at bs (record-place b k))) (record-count bs b)
+
+side-counted : (bs : List ℕ) (b : Block) → In b side-blocks → T (all (count-right bs) design-blocks) → (1 ≤ length (side-in bs b)) × (length (side-in bs b) ≤ 16)
+unfolding count-right
+side-counted bs b i t =
+    let n = record-count bs b in
+    let w = and-both (leb (b .least) n) (leb n (b .most)) (all-in (count-right bs) (append-left (formulas ∷ rules ∷ []) i) t) in
+    let l : b .least ≤ n = leb→le (b .least) n (w .0) in
+    let m : n ≤ b .most = leb→le n (b .most) (w .1) in
+    let e = side-limits b i in
+    (omega (arith, length-side bs b, e .0, e .1), omega (arith, length-side bs b, e .0, e .1))
+
+side-formed : (bs : List ℕ) → Passed bs → (S : Side) → In S (design bs .sides) → WellFormedSide S
+unfolding design
+side-formed bs p S i =
+    let w = of-map (side-in bs) S side-blocks i in
+    let c = side-counted bs (w .0) (w .1) (p .counts) in
+    record {
+      some-state = subst (λ (X : Side). 1 ≤ length X) (w .2) (c .0);
+      at-most-sixteen = subst (λ (X : Side). length X ≤ 16) (w .2) (c .1);
+      each = states-test (design bs .sides) .0 (p .states) S i;
+      kinds = kinds-test (design bs .sides) .0 (p .kinds) S i;
+    }
+
+pub well-formed : (bs : List ℕ) → design-refusal bs ≡ 0 → WellFormed (design bs)
+well-formed bs e =
+    let p = passed bs e in
+    let f = formulas-test bs .0 (p .formulas) in
+    record { each-side = side-formed bs p; lower = f .lower; propositions = f .propositions; rules-there = f .rules-there }

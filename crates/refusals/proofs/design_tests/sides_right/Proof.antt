@@ -1,0 +1,63 @@
+-- `design_tests::sides_right` meets its contract. The invariant: each of the first i sides passes.
+use mathlib.Core.Path.{_≡_, sym, _∙_}
+use mathlib.Core.Bool.{true}
+use Prim.Native.Nat.{ℕ, _-_, _≤_, _<_}
+use native.Mathlib.Nat.{not-suc-le-zero}
+use native.Mathlib.Omega.{arith}
+use borrow.Author.Count.{below-more}
+use borrow.Author.Tests.{not-true, not-false}
+use mathlib.Core.List.{[]}
+use Rattle.layout.specs.Designs.{design, side}
+use Rattle.layout.specs.Tests.{side-right}
+use Rattle.layout.proofs.DesignBytes.{sides-two}
+use Rattle.layout.proofs.Tables.{all-true, all-false}
+use borrow.Author.Needs.{needs}
+use Rattle.refusals.proofs.design_tests.sides_right.Statement.{statement}
+use Rattle.refusals.proofs.design_tests.sides_right.Tie as tie
+
+abbrev Inv-loop : tie.InvT-loop
+Inv-loop s i₀ i = (i ≤ 2) × ((j : ℕ) → j < i → side-right (side (design s) j) ≡ true)
+
+abbrev μ-loop : tie.MeasureT-loop
+μ-loop s i₀ i = 2 - i
+
+loop-holds : tie.Need-loop-holds Inv-loop μ-loop
+loop-holds c = (search needs, λ j h. absurd (not-suc-le-zero h))
+
+side-right-requires : tie.Need-side-right-requires Inv-loop μ-loop
+side-right-requires c κs = search needs
+
+returns : tie.Need-returns Inv-loop μ-loop
+returns c =
+    let bs = c .before .before .before .before .before .args .s .now in
+    sym
+    (all-false side-right [] (design bs .sides) (c .before .before .before .loop .i) (omega (arith, sides-two bs))
+    (sym (c .before .side-right .ensures) ∙ not-true (c .before .side-right .result) (c .if1 .taken)))
+
+add-i : tie.Need-add-i Inv-loop μ-loop
+add-i c = search needs
+
+loop-less : tie.Need-loop-less Inv-loop μ-loop
+loop-less c = search needs
+
+loop-again : tie.Need-loop-again Inv-loop μ-loop
+loop-again c = (search needs, below-more _ _ (c .before .before .before .loop .inv .1) (sym (c .before .side-right .ensures) ∙ not-false (c .before .side-right .result) (c .if1 .left)))
+
+returns-2 : tie.Need-returns-2 Inv-loop μ-loop
+returns-2 c =
+    let bs = c .before .before .before .args .s .now in
+    sym (all-true side-right [] (design bs .sides) (λ j h. c .before .loop .inv .1 j (omega (arith, sides-two bs))))
+
+pub sides-right-spec : {M : Type 1} → statement M
+sides-right-spec =
+    tie.close
+    (tie.spec
+    Inv-loop
+    μ-loop
+    loop-holds
+    side-right-requires
+    returns
+    add-i
+    loop-less
+    loop-again
+    returns-2)

@@ -1,0 +1,2 @@
+-- What the proofs of functions cite.
+mod Making

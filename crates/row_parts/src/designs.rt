@@ -1,0 +1,43 @@
+// A design, made of its records.
+ghost use mathlib.Core.Path.{_≡_};
+ghost use Prim.Native.Nat.{_+_, _*_, _/_, _<_, _≤_};
+ghost use lib.ListN.{length};
+ghost use Rattle.layout.specs.Sizes.{block-bytes, records-in-block, check-in-block, state-bytes, most-states, formula-bytes, most-formulas, most-rules};
+ghost use Rattle.layout.specs.Bytes.{put};
+ghost use Rattle.layout.specs.Blocks.{sealed};
+ghost use Rattle.row_parts.specs.Made.{made};
+use crate::blocks;
+use layout::designs::FORMULAS;
+use layout::designs::RULES;
+use layout::ranges;
+use layout::sizes;
+
+// A block at `at`, whose records have this size each. The number of its first record is 0.
+fn block(s: &mut [u8], at: usize, kind: u8, size: usize, records: &[u8])
+    requires { ⌜ (at + block-bytes ≤ length (now s)) × (0 < size) × (length (now records) / size < 256) × (records-in-block + length (now records) ≤ check-in-block) ⌝ }
+    ensures { λ _. ⌜ now (s .exit) ≡ put (now (s .entry)) at (sealed kind (length (now (records .entry)) / size) 0 (now (records .entry))) ⌝ }
+{
+    let n = records.len();
+    let header = [kind, (n / size) as u8, 0, 0];
+    let behind = at + sizes::RECORDS_IN_BLOCK;
+    ranges::copy(&header, 0, s, at, sizes::RECORDS_IN_BLOCK);
+    ranges::copy(records, 0, s, behind, n);
+    ranges::fill(
+        s,
+        behind + n,
+        sizes::CHECK_IN_BLOCK - sizes::RECORDS_IN_BLOCK - n,
+        0,
+    );
+    blocks::seal(s, at);
+}
+
+// The four blocks, from the bytes of their records: the states of each side, the formulas and the rules.
+pub fn design(d: &mut [u8; 2048], kernel: &[u8], host: &[u8], formulas: &[u8], rules: &[u8])
+    requires { ⌜ (length (now kernel) ≤ state-bytes * most-states) × (length (now host) ≤ state-bytes * most-states) × (length (now formulas) ≤ formula-bytes * most-formulas) × (length (now rules) ≤ most-rules) ⌝ }
+    ensures { λ _. ⌜ now (d .exit) ≡ made (now (kernel .entry)) (now (host .entry)) (now (formulas .entry)) (now (rules .entry)) ⌝ }
+{
+    block(d, 0, 1, sizes::STATE_BYTES, kernel);
+    block(d, sizes::BLOCK_BYTES, 2, sizes::STATE_BYTES, host);
+    block(d, FORMULAS, 3, sizes::FORMULA_BYTES, formulas);
+    block(d, RULES, 4, 1, rules);
+}

@@ -1,0 +1,118 @@
+// Runs the rows of the specification on the search. For each it writes a line: what was searched, and 0 for a converter found or the number of the refusal; then
+// the positions of the design, and what the judge says of the converter found.
+ghost use Prim.Native.Nat.{_*_, _≤_};
+ghost use lib.ListN.{length};
+ghost use Rattle.layout.specs.Sizes.{formula-bytes, most-formulas, most-rules};
+use row_parts::designs;
+use row_parts::lines;
+use row_parts::tables;
+
+// How many records the converter found has, 0 where none is found.
+fn found(words: &[u8], d: &[u8; 2048], table: &mut [u8], work: &mut [u8]) -> usize {
+    let a = search::search(d, table, work);
+    match a {
+        search::Outcome::Found(n) => {
+            lines::line(words, 0);
+            n as usize
+        }
+        search::Outcome::Refused(k) => {
+            lines::line(words, k as u64);
+            0
+        }
+    }
+}
+
+// The positions of a design that isn't refused, 65,537 where there are more than 65,536.
+fn positions(d: &[u8]) {
+    let refusal = refusals::design_tests::design_refusal(d);
+    if refusal != 0 {
+        return;
+    }
+    let n = positions::positions_of(d);
+    lines::line(b"  positions", n as u64);
+}
+
+// What the judge answers of a converter.
+fn judged(d: &[u8; 2048], converter: &[u8], work: &mut [u8]) {
+    let v = judge::judge(d, converter, work);
+    match v {
+        judge::Verdict::Yes => lines::line(b"  judged", 0),
+        judge::Verdict::Refused(k) => lines::line(b"  judged", k as u64),
+    }
+}
+
+// What it answers of the first n records of the table.
+fn judged_front(d: &[u8; 2048], table: &[u8], n: usize, work: &mut [u8]) {
+    if n <= 1024 {
+        let end = 36 * n;
+        if end <= table.len() {
+            judged(d, &table[0..end], work);
+        }
+    }
+}
+
+// Searches with room for 1,024 positions.
+fn searched(words: &[u8], d: &[u8; 2048]) {
+    let mut table = [7u8; 36864];
+    let mut work = [7u8; 16384];
+    let n = found(words, d, &mut table, &mut work);
+    positions(d);
+    if n != 0 {
+        judged_front(d, &table, n, &mut work);
+    }
+}
+
+// The handshake pair with these formulas and rules.
+fn pair(words: &[u8], formulas: &[u8], rules: &[u8])
+    requires { ⌜ (length (now formulas) ≤ formula-bytes * most-formulas) × (length (now rules) ≤ most-rules) ⌝ }
+{
+    let mut d = [0u8; 2048];
+    designs::design(&mut d, &tables::H_KERNEL, &tables::H_HOST, formulas, rules);
+    searched(words, &d);
+}
+
+// The fork with these formulas and rules.
+fn fork(words: &[u8], formulas: &[u8], rules: &[u8])
+    requires { ⌜ (length (now formulas) ≤ formula-bytes * most-formulas) × (length (now rules) ≤ most-rules) ⌝ }
+{
+    let mut d = [0u8; 2048];
+    designs::design(&mut d, &tables::TICKING, &tables::FORK, formulas, rules);
+    searched(words, &d);
+}
+
+fn in_turn() {
+    let rules = [6];
+    let mut d = [0u8; 2048];
+    designs::design(
+        &mut d,
+        &tables::TURNS,
+        &tables::TICKING,
+        &tables::TURNS_ALWAYS,
+        &rules,
+    );
+    searched(
+        b"search: two states in turn, AG(A(true U 0) and A(true U 1))",
+        &d,
+    );
+}
+
+fn main() {
+    let none = [0u8; 0];
+    pair(b"search: H, no rules", &none, &none);
+    pair(
+        b"search: H, the four rules as printed",
+        &tables::PRINTED,
+        &tables::FOUR,
+    );
+    pair(
+        b"search: H, the fourth rule mended",
+        &tables::MENDED,
+        &tables::FOUR,
+    );
+    pair(b"search: H, A(true U 1)", &tables::UNTIL, &[2]);
+    in_turn();
+    fork(b"search: (AX 0) or (AX 1)", &tables::EITHER, &[4]);
+    fork(b"search: (AX 0) and (AX 1)", &tables::BOTH, &[4]);
+    fork(b"search: AX 0 and AX 1, two rules", &tables::NEXTS, &[2, 3]);
+    pair(b"search: H, 12 untils", &tables::UNTILS, &none);
+}

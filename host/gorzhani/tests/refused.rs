@@ -1,0 +1,107 @@
+//! What a refusal says of itself, and that the wrapper's constants are those of the C header.
+
+mod common;
+
+use std::collections::BTreeSet;
+use std::error::Error;
+
+use checker::refusal;
+use common::header;
+use gorzhani::{Refused, BLOCK, CELL, DESIGN, MOST, RECORD};
+
+/// What stands behind the number.
+fn wrong(number: u8) -> String {
+    let said = Refused(number).to_string();
+    let before = format!("refused {number}: ");
+    said.strip_prefix(&before).unwrap_or_else(|| panic!("{said}")).to_string()
+}
+
+#[test]
+fn each_number_says_what_is_wrong() {
+    // Words of the specification's list that stand in one sentence alone.
+    let words = [
+        "2,048 bytes",
+        "a block's check",
+        "kind or first record",
+        "a block's record count",
+        "a target that isn't a state",
+        "neither input, output-only nor delayed",
+        "an operand not lower",
+        "an unused byte outside converter records",
+        "over 65,536 positions",
+        "a converter in memory is empty",
+        "an event pair twice",
+        "the lent result is too short",
+        "the lent work is too short",
+        "isn't matched to the sides",
+        "some rule doesn't hold",
+        "no converter exists",
+        "a shown event is above 0 or below -63",
+    ];
+    for (own, word) in (1..).zip(words) {
+        let saying: Vec<u8> = (0..=255).filter(|&number| wrong(number).contains(word)).collect();
+        assert_eq!(saying, [own], "{word}");
+    }
+}
+
+#[test]
+fn other_numbers_are_unknown() {
+    let known: BTreeSet<String> = (1..=17).map(wrong).collect();
+    assert_eq!(known.len(), 17);
+    let unknown: BTreeSet<String> = (18..=255).chain([0]).map(wrong).collect();
+    assert_eq!(unknown.len(), 1);
+    assert!(unknown.is_disjoint(&known));
+}
+
+#[test]
+fn a_refusal_is_an_error() {
+    let search = || -> Result<usize, Box<dyn Error>> {
+        Ok(gorzhani::search(&[0; 2_047], &mut [], &mut [])?)
+    };
+    let error = search().expect_err("the design is too short");
+    assert_eq!(error.downcast_ref(), Some(&Refused::LENGTH));
+    assert!(error.to_string().starts_with("refused 1: "));
+}
+
+/// The constants by their names, each beside the second checker's.
+#[test]
+fn constants() {
+    let named = [
+        ("LENGTH", Refused::LENGTH, refusal::LENGTH),
+        ("CHECK", Refused::CHECK, refusal::CHECK),
+        ("HEADER", Refused::HEADER, refusal::HEADER),
+        ("COUNT", Refused::COUNT, refusal::COUNT),
+        ("TRANSITIONS", Refused::TRANSITIONS, refusal::TRANSITIONS),
+        ("STATE_KIND", Refused::STATE_KIND, refusal::STATE_KIND),
+        ("FORMULA", Refused::FORMULA, refusal::FORMULA),
+        ("UNUSED_BYTE", Refused::UNUSED_BYTE, refusal::UNUSED),
+        ("POSITIONS", Refused::POSITIONS, refusal::POSITIONS),
+        ("CONVERTER_LENGTH", Refused::CONVERTER_LENGTH, refusal::CONVERTER_LENGTH),
+        ("RECORD", Refused::RECORD, refusal::RECORD),
+        ("SHORT_RESULT", Refused::SHORT_RESULT, refusal::RESULT),
+        ("SHORT_WORK", Refused::SHORT_WORK, refusal::WORK),
+        ("UNMATCHED", Refused::UNMATCHED, refusal::UNMATCHED),
+        ("RULE", Refused::RULE, refusal::RULE),
+        ("NO_CONVERTER", Refused::NO_CONVERTER, refusal::NONE),
+        ("TICK", Refused::TICK, refusal::TICK),
+    ];
+    for (own, (name, Refused(number), other)) in (1..).zip(named) {
+        let declared = header(&format!("GORZHANI_REFUSED_{name}"));
+        assert_eq!((number, other, declared), (own, own, usize::from(own)), "{name}");
+    }
+    for (name, size) in [
+        ("DESIGN_BYTES", DESIGN),
+        ("RECORD_BYTES", RECORD),
+        ("BLOCK_BYTES", BLOCK),
+        ("BLOCK_RECORDS", 14),
+        ("CELL_BYTES", CELL),
+        ("MOST_POSITIONS", MOST),
+        ("MOST_RECORDS", MOST),
+        ("MOST_BLOCKS", MOST.div_ceil(14)),
+        ("MOST_TABLE_BYTES", 36 * 65_536),
+        ("MOST_WORK_BYTES", 16 * 65_536),
+        ("MOST_BLOCKS_BYTES", 512 * 4_682),
+    ] {
+        assert_eq!(header(&format!("GORZHANI_{name}")), size, "{name}");
+    }
+}

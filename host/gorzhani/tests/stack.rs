@@ -1,0 +1,202 @@
+//! How far down the stack the calls reach. Each is made on a stack of its own that holds a pattern,
+//! over seeded inputs and the largest that there are; the lowest place that lost the pattern tells
+//! how much was taken. No call takes more than the C header says.
+
+mod common;
+#[path = "../../checker/tests/samples/mod.rs"]
+mod samples;
+
+use std::arch::asm;
+
+use checker::bytes::{converter_bytes, Formula};
+use checker::generate::{any_converter, block_file, damage, loose_converter, script, Random};
+use common::{header, mixed_design, Answers};
+use gorzhani::{Runner, BLOCK, CELL, MOST, RECORD};
+use samples::rings;
+
+// The library's functions, to be called by hand.
+extern "C" {
+    fn gorzhani_positions();
+    fn gorzhani_search();
+    fn gorzhani_judge();
+    fn gorzhani_write();
+    fn gorzhani_read();
+    fn gorzhani_tick();
+}
+
+/// Sixteen bytes of a stack, aligned as the convention asks for.
+#[repr(align(16))]
+#[derive(Clone, PartialEq)]
+struct Place([u64; 2]);
+
+const PATTERN: Place = Place([0xA5C3_96E1_5A3C_691E, 0x1E69_3C5A_E196_C3A5]);
+
+/// The places of a stack of a megabyte.
+const PLACES: usize = 1 << 16;
+
+/// One of the functions, the stack that it is called on, and what it answered.
+struct Call {
+    function: unsafe extern "C" fn(),
+    stack: Vec<Place>,
+    answers: Answers,
+}
+
+impl Call {
+    fn new(function: unsafe extern "C" fn()) -> Call {
+        Call { function, stack: vec![PATTERN; PLACES], answers: Answers::default() }
+    }
+
+    /// Calls the function with these arguments in registers.
+    ///
+    /// # Safety
+    /// They are arguments as the C header asks for.
+    unsafe fn with(&mut self, arguments: [usize; 6]) -> i32 {
+        let answer: i32;
+        asm!(
+            "mov r12, rsp",
+            "mov rsp, {top}",
+            "call {function}",
+            "mov rsp, r12",
+            top = in(reg) self.stack.as_mut_ptr().add(PLACES),
+            function = in(reg) self.function,
+            in("rdi") arguments[0],
+            in("rsi") arguments[1],
+            in("rdx") arguments[2],
+            in("rcx") arguments[3],
+            in("r8") arguments[4],
+            in("r9") arguments[5],
+            out("r12") _,
+            lateout("eax") answer,
+            clobber_abi("C"),
+        );
+        self.answers.count((-answer).max(0) as u8);
+        answer
+    }
+
+    /// Asks that the answers were these numbers, and that no call took more stack than this
+    /// constant of the header.
+    fn took(&self, numbers: &[usize], most: &str) {
+        self.answers.are(numbers, 10);
+        let kept = self.stack.iter().take_while(|&place| *place == PATTERN).count();
+        let taken = 16 * (PLACES - kept);
+        assert!(taken > 0, "a call leaves its return address");
+        assert!(taken <= header(most), "{taken} bytes, {most} is {}", header(most));
+    }
+}
+
+/// The calls.
+struct Calls {
+    positions: Call,
+    search: Call,
+    judge: Call,
+    write: Call,
+    read: Call,
+    tick: Call,
+}
+
+impl Calls {
+    fn new() -> Calls {
+        Calls {
+            positions: Call::new(gorzhani_positions),
+            search: Call::new(gorzhani_search),
+            judge: Call::new(gorzhani_judge),
+            write: Call::new(gorzhani_write),
+            read: Call::new(gorzhani_read),
+            tick: Call::new(gorzhani_tick),
+        }
+    }
+
+    /// Counts and searches with lent memory of this many positions. The converter, if one is found.
+    fn design(&mut self, design: &[u8], lent: usize) -> Option<Vec<u8>> {
+        let (mut table, mut work) = (vec![0; RECORD * lent], vec![0; CELL * lent]);
+        let [at, length] = read(design);
+        let ([table_at, table_length], [work_at, work_length]) =
+            (written(&mut table), written(&mut work));
+        // SAFETY: the pointers are those of slices that live on, and the functions take these.
+        let answer = unsafe {
+            self.positions.with([at, length, 0, 0, 0, 0]);
+            self.search.with([at, length, table_at, table_length, work_at, work_length])
+        };
+        table.truncate(RECORD * usize::try_from(answer).ok()?);
+        Some(table)
+    }
+
+    /// Judges a converter, writes it and reads it back.
+    fn converter(&mut self, design: &[u8], converter: &[u8]) {
+        let records = converter.len() / RECORD;
+        let (mut work, mut file) = (vec![0; CELL * records], vec![0; BLOCK * records.div_ceil(14)]);
+        let ([design_at, design_length], [at, length]) = (read(design), read(converter));
+        let ([work_at, work_length], [file_at, file_length]) =
+            (written(&mut work), written(&mut file));
+        // SAFETY: as above.
+        unsafe {
+            self.judge.with([design_at, design_length, at, length, work_at, work_length]);
+            self.write.with([at, length, file_at, file_length, 0, 0]);
+        }
+        self.file(&file);
+    }
+
+    /// Reads a file of blocks.
+    fn file(&mut self, file: &[u8]) {
+        let mut memory = vec![0; RECORD * 14 * file.len().div_ceil(BLOCK)];
+        let ([file_at, file_length], [at, length]) = (read(file), written(&mut memory));
+        // SAFETY: as above.
+        unsafe { self.read.with([file_at, file_length, at, length, 0, 0]) };
+    }
+
+    /// Ticks once.
+    fn tick(&mut self, converter: &[u8], runner: &mut Runner, shown: [i8; 2]) {
+        let [at, length] = read(converter);
+        let [first, second] = shown.map(|event| event as usize);
+        let runner: *mut Runner = runner;
+        // SAFETY: as above; the runner is lent and nothing else refers to it.
+        unsafe { self.tick.with([at, length, runner as usize, first, second, 0]) };
+    }
+}
+
+/// Bytes that are read, as arguments.
+fn read(bytes: &[u8]) -> [usize; 2] {
+    [bytes.as_ptr() as usize, bytes.len()]
+}
+
+/// Bytes that are written, as arguments.
+fn written(bytes: &mut [u8]) -> [usize; 2] {
+    [bytes.as_mut_ptr() as usize, bytes.len()]
+}
+
+#[test]
+fn no_call_takes_more_than_the_header_says() {
+    let mut random = Random::new(601);
+    let mut calls = Calls::new();
+    for round in 0..10_000 {
+        let made = mixed_design(&mut random, round);
+        let mut bytes = made.to_bytes();
+        if random.once_in(2) {
+            damage(&mut random, &mut bytes);
+        }
+        let found = calls.design(&bytes, 1 << random.below(13));
+        for converter in found.into_iter().chain([any_converter(&mut random, &made)]) {
+            calls.converter(&bytes, &converter);
+            let mut runner = Runner::default();
+            for shown in script(&mut random, &made, &converter, 5) {
+                calls.tick(&converter, &mut runner, shown);
+            }
+        }
+        let mut file = block_file(&mut random, 40);
+        damage(&mut random, &mut file);
+        calls.file(&file);
+    }
+    // As many positions and as many records as there may be.
+    let full = rings(Formula::Always(14)).to_bytes();
+    let found = calls.design(&full, MOST).expect("there is a converter");
+    calls.converter(&full, &found);
+    calls.converter(&full, &converter_bytes(&loose_converter(&mut random, MOST)));
+
+    calls.positions.took(&[0, 1, 2, 3, 4, 5, 6, 7, 8, 9], "GORZHANI_POSITIONS_STACK");
+    calls.search.took(&[0, 1, 2, 3, 4, 5, 6, 7, 8, 9, 12, 16], "GORZHANI_SEARCH_STACK");
+    let judged = [0, 1, 2, 3, 4, 5, 6, 7, 8, 10, 11, 14, 15];
+    calls.judge.took(&judged, "GORZHANI_JUDGE_STACK");
+    calls.write.took(&[0, 10, 11], "GORZHANI_WRITE_STACK");
+    calls.read.took(&[0, 1, 2, 3, 4, 8, 11], "GORZHANI_READ_STACK");
+    calls.tick.took(&[0, 10, 11, 17], "GORZHANI_TICK_STACK");
+}
