@@ -60,7 +60,7 @@ any-delayed (input ∷ ks) = any-delayed ks
 any-delayed (output-only ∷ ks) = any-delayed ks
 any-delayed (delayed ∷ ks) = true
 
--- The specification has this for two sides: no side input; one input and one delayed; otherwise (`proofs/TwoSides`).
+-- The specification has this for two sides, in three lines: `Pairs` has them as they are worded, and the duty of two kinds by number (`proofs/TwoSides`).
 unfoldable pub duty : List Kind → Duty
 duty ks = cond (any-input ks) (cond (any-delayed ks) one-each some) every
 
