@@ -1,4 +1,4 @@
-//! What a converter may enable at a pair, for each two kinds: the checker's rule
+//! What a converter may enable at a pair, for every two kinds: the checker's rule
 //! against a table by the pair's number alone.
 
 mod kinds;
@@ -13,8 +13,8 @@ use samples::{judged_well, searched};
 /// The kinds by their numbers, in the order in which the paper names them.
 const KINDS: [StateKind; 3] = [StateKind::Input, StateKind::OutputOnly, StateKind::Delayed];
 
-/// What is asked of a pair, by three times the number of the first kind and once
-/// that of the second.
+/// What is asked of a pair, by three times the number of the first kind plus that
+/// of the second.
 const DUTIES: [Enabling; 9] = [
     Enabling::Some,           // input, input
     Enabling::Some,           // input, output-only

@@ -1,9 +1,9 @@
-//! What a converter may enable at a pair, for each two kinds: the judge and the
+//! What a converter may enable at a pair, for every two kinds: the judge and the
 //! search against the three lines of the specification.
 //!
 //! The kinds are numbered in the order in which the paper names them: input 0,
-//! output-only 1, delayed 2. A pair's number is three times the first kind and
-//! once the second.
+//! output-only 1, delayed 2. A pair's number is three times the first kind plus
+//! the second.
 
 mod common;
 #[path = "../../checker/tests/kinds/mod.rs"]

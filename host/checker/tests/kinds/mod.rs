@@ -22,7 +22,7 @@ pub const STATES: [&[&[(i8, u8)]]; 3] = [
     &[&[(-1, 1), (0, 0)], &[(0, 0), (-1, 1)], &[(-63, 0), (0, 0)], &[(0, 0), (-2, 0)]],
 ];
 
-/// For each two kinds, by three times the first and once the second: how many
+/// For every two kinds, by three times the first plus the second: how many
 /// converters there are below, and how many of them are matched.
 ///
 /// Of the six input states two have 1, two have 2 and two have 3 transitions; the
@@ -47,8 +47,9 @@ pub const COUNTS: [[usize; 2]; 9] = [
 /// Every pair, where each side has two states.
 pub const PAIRS: [[u8; 2]; 4] = [[0, 0], [0, 1], [1, 0], [1, 1]];
 
-/// Each design in which this pair has the kinds with this number. The other
-/// state of a side ticks and stays. There are no rules.
+/// A design for every two of the states above whose kinds have this number, and
+/// they stand at this pair. The other state of a side ticks and stays. There are
+/// no rules.
 pub fn designs(number: usize, pair: [u8; 2]) -> Vec<Design> {
     let side = |own: u8, events: &[(i8, u8)]| {
         let transition = |&(event, on): &(i8, u8)| Transition { event, target: own ^ on };
@@ -86,8 +87,8 @@ pub fn links(design: &Design, pair: [u8; 2]) -> Vec<Link> {
 }
 
 /// Each converter with one record for each pair, in which the record for this
-/// pair enables some transitions and the others enable all. That is what is
-/// asked of the others, since one of their two states has a tick alone.
+/// pair enables some transitions and the others enable all. That is right at the
+/// others, whatever their kinds, since one of their two states has a tick alone.
 pub fn converters(design: &Design, pair: [u8; 2]) -> Vec<Vec<Record>> {
     let all = PAIRS.map(|pair| Record { pair, links: links(design, pair) });
     let links = &all[record_of(pair)].links;
