@@ -4,7 +4,6 @@ pub mod AnyOf
 pub mod DesignBytes
 pub mod JointLaws
 pub mod JointMoves
-pub mod KindTests
 pub mod Parts
 pub mod Pieces
 pub mod Put

@@ -60,7 +60,8 @@ any-delayed (input ∷ ks) = any-delayed ks
 any-delayed (output-only ∷ ks) = any-delayed ks
 any-delayed (delayed ∷ ks) = true
 
--- The specification has this for two sides: no side input; one input and one delayed; otherwise (`proofs/TwoSides`).
+-- The specification says this of two sides, in three lines. `Pairs` has the lines as they are worded, and the duty of two kinds by number; `proofs/TwoSides`
+-- shows that all three agree.
 unfoldable pub duty : List Kind → Duty
 duty ks = cond (any-input ks) (cond (any-delayed ks) one-each some) every
 

@@ -3,6 +3,7 @@ pub mod Events
 pub mod Sides
 pub mod Joined
 pub mod Converters
+pub mod Pairs
 pub mod Actl
 pub mod Formulas
 pub mod Designs
