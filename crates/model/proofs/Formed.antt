@@ -231,10 +231,11 @@ module _ (D : Design) where
       let b = all-below (λ k. lower? k (getD (D .forms) k truth)) n in
       let c = all (λ r. ltb r n) (D .rules) in
       let u = and-both (a && b) c t in
-      let w = and-both a b (u .0) in
-      (λ S i. side-formed S (all-in side? i (w .0)),
-       λ k h. lower-formed k (getD (D .forms) k truth) (below-all (λ k. lower? k (getD (D .forms) k truth)) n (w .1) k h),
-       λ r i. ltb→lt r n (all-in (λ r. ltb r n) i (u .1)))
+      let w = and-both a b (u .0) in (
+        λ S i. side-formed S (all-in side? i (w .0)),
+        λ k h. lower-formed k (getD (D .forms) k truth) (below-all (λ k. lower? k (getD (D .forms) k truth)) n (w .1) k h),
+        λ r i. ltb→lt r n (all-in (λ r. ltb r n) i (u .1)),
+      )
 
   -- a design that passes the test is well formed
   pub formed : T (well-formed? D) → WellFormed D

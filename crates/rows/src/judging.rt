@@ -117,7 +117,11 @@ pub fn rows() {
     mended(b"a converter of 0 bytes", &tables::F[..0], 70, 0);
     mended(b"F without its last record", &tables::F[..72], 70, 0);
     open_fork();
-    in_step(b"lock and menu, 3 and AX 19", &tables::LOCK_THEN_MENU, &[0, 2]);
+    in_step(
+        b"lock and menu, 3 and AX 19",
+        &tables::LOCK_THEN_MENU,
+        &[0, 2],
+    );
     in_step(b"lock and menu, 19", &tables::MENU_NOW, &[0]);
     in_step(b"lock and menu, AX 3", &tables::LOCK_NEXT, &[1]);
     too_large_to_search();
