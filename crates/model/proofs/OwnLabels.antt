@@ -1,10 +1,9 @@
 -- A label belongs to one side: labels 0 to 15 are the first side's, and those from 16 on are the other sides' by themselves. Then both lines for two sides, kernel and host.
-use mathlib.Core.Path.{_≡_, ap₂, _∙_}
+use mathlib.Core.Path.{_≡_, _∙_}
 use mathlib.Core.Bool.{false}
 use mathlib.Core.List.{List, [], _∷_}
 use Prim.Native.Nat.{ℕ, suc, _+_, _/_, _%_, _<_}
 use native.Mathlib.Omega.{arith}
-use lib.ListN.{getD}
 use Rattle.model.specs.Sides.{Side, state}
 use Rattle.model.specs.Joined.{bit, side-labels, label-words, own-label, labelled}
 use Rattle.model.proofs.Sets.{digit-zero}
@@ -15,14 +14,14 @@ unfolding own-label
 first-word w ws p h =
     let i : p / side-labels ≡ 0 = omega arith in
     let k : p % side-labels ≡ p = omega arith in
-    ap₂ (λ (i k : ℕ). bit (getD (w ∷ ws) i 0) k) i k
+    simp (i, k)
 
 pub other-words : (w : ℕ) (ws : List ℕ) (p : ℕ) → own-label (w ∷ ws) (side-labels + p) ≡ own-label ws p
 unfolding own-label
 other-words w ws p =
     let i : (side-labels + p) / side-labels ≡ suc (p / side-labels) = omega arith in
     let k : (side-labels + p) % side-labels ≡ p % side-labels = omega arith in
-    ap₂ (λ (i k : ℕ). bit (getD (w ∷ ws) i 0) k) i k
+    simp (i, k)
 
 -- where there is no side, no proposition holds
 pub no-words : (p : ℕ) → own-label [] p ≡ false

@@ -169,6 +169,7 @@ menu-now = design lock-menu (prop menu-open ∷ []) (0 ∷ [])
 abbrev pub lock-next : Design
 lock-next = design lock-menu (prop lock-held ∷ ax 0 ∷ []) (1 ∷ [])
 
+-- the converter T
 abbrev pub in-step : Converter
 in-step = at 0 0 (pair tick tick 1 ∷ []) ∷ at 1 1 (pair tick tick 0 ∷ []) ∷ []
 

@@ -12,7 +12,9 @@ use checker::judge::failing_rules;
 use checker::none::no_converter;
 use checker::search::find;
 use meanings::of_some_side;
-use samples::{judged_well, mend, mend_converter, mistaken_mends, record, searched, ticking};
+use samples::{
+    judged_well, lock_and_menu, lock_and_menu_converter, mistaken_labels, record, searched, ticking,
+};
 
 /// Label words with a single bit set, each with the proposition that names it.
 fn single_bits() -> Vec<(Labels, u8)> {
@@ -71,15 +73,18 @@ fn holds_of_some_side(design: &Design, pair: Pair, p: u8) -> bool {
 }
 
 #[test]
-fn every_rule_of_the_mend_holds_of_some_side() {
+fn either_side_has_every_label_asked_for() {
     // 3 and 19 are asked at the start, AX 19 and AX 3 at the one pair that comes next.
     for p in [3, 19] {
-        assert!(holds_of_some_side(&mend(), [0, 0], p));
-        assert!(holds_of_some_side(&mend(), [1, 1], p));
+        assert!(holds_of_some_side(&lock_and_menu(), [0, 0], p));
+        assert!(holds_of_some_side(&lock_and_menu(), [1, 1], p));
     }
-    for design in mistaken_mends().into_iter().chain([mend()]) {
+    for design in mistaken_labels().into_iter().chain([lock_and_menu()]) {
         let taken_for_either = of_some_side(&design);
-        assert!(failing_rules(&taken_for_either, &mend_converter()).is_empty(), "{design:?}");
+        assert!(
+            failing_rules(&taken_for_either, &lock_and_menu_converter()).is_empty(),
+            "{design:?}"
+        );
         assert!(find(&taken_for_either).is_some(), "{design:?}");
     }
 }

@@ -15,8 +15,8 @@ use checker::none::no_converter;
 use checker::search::find;
 use meanings::rewritten;
 use samples::{
-    handshake, hub, mend, mistaken_mends, next_sixteen_next_seventeen, rings, ruled_handshake,
-    state, ticking_in_turn, two_inputs,
+    handshake, hub, lock_and_menu, mistaken_labels, next_sixteen_next_seventeen, rings,
+    ruled_handshake, state, ticking_in_turn, two_inputs,
 };
 
 /// The most positions of a random design here. The tableau is for small ones.
@@ -156,7 +156,7 @@ fn rows_with_a_converter() {
         ruled_handshake(false),
         ticking_in_turn(),
         two_inputs(one_of_two, vec![4]),
-        mend(),
+        lock_and_menu(),
         rings(Formula::Always(14)),
     ];
     for design in rows {
@@ -176,7 +176,7 @@ fn rows_without_a_converter() {
         two_inputs(next_sixteen_next_seventeen(), vec![2, 3]),
         two_inputs(both_of_two, vec![4]),
     ];
-    for design in rows.into_iter().chain(mistaken_mends()) {
+    for design in rows.into_iter().chain(mistaken_labels()) {
         assert!(no_converter(&design), "{design:?}");
         assert!(search_says_none(&design), "{design:?}");
     }

@@ -6,7 +6,7 @@ use checker::bytes::{check, converter_bytes, positions, read_design, Design, For
 use checker::judge::failing_rules;
 use checker::tick::Runner;
 use samples::{
-    figure_five, handshake, judged_well, mend, mend_converter, mistaken_mends,
+    figure_five, handshake, judged_well, lock_and_menu, lock_and_menu_converter, mistaken_labels,
     next_sixteen_next_seventeen, record, rings, ruled_handshake, searched, state, ticking_in_turn,
     two_inputs,
 };
@@ -116,13 +116,13 @@ fn both_of_two_inputs() {
 }
 
 #[test]
-fn the_mend() {
-    assert_eq!(mend().kept().len(), 3);
-    assert_eq!(positions(&mend()), 32);
-    assert!(searched(&mend()).is_ok());
-    let converter = converter_bytes(&mend_converter());
-    assert_eq!(judged_well(&mend(), &converter), Ok(()));
-    for mistaken in mistaken_mends() {
+fn lock_and_menu_are_told_apart() {
+    assert_eq!(lock_and_menu().kept().len(), 3);
+    assert_eq!(positions(&lock_and_menu()), 32);
+    assert!(searched(&lock_and_menu()).is_ok());
+    let converter = converter_bytes(&lock_and_menu_converter());
+    assert_eq!(judged_well(&lock_and_menu(), &converter), Ok(()));
+    for mistaken in mistaken_labels() {
         assert_eq!(searched(&mistaken), Err(16));
         assert_eq!(judged_well(&mistaken, &converter), Err(15));
     }

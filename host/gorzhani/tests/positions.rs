@@ -10,8 +10,8 @@ use checker::generate::{any_design, damage, ruled_design, Random, Shape};
 use common::{mixed_design, positions_agrees, Answers};
 use gorzhani::{Refused, CELL, DESIGN, RECORD};
 use samples::{
-    handshake, mend, next_sixteen_next_seventeen, rings, ruled_handshake, state, ticking_in_turn,
-    two_inputs,
+    handshake, lock_and_menu, next_sixteen_next_seventeen, rings, ruled_handshake, state,
+    ticking_in_turn, two_inputs,
 };
 
 /// The rows of the specification, with the count that stands there.
@@ -26,7 +26,7 @@ fn rows() {
         (handshake(waiting, vec![2]), Ok(8)),
         (ticking_in_turn(), Ok(32)),
         (two_inputs(either, vec![4]), Ok(24)),
-        (mend(), Ok(32)),
+        (lock_and_menu(), Ok(32)),
         (rings(Formula::Always(14)), Ok(65_536)),
         (rings(Formula::Until(14, 4)), Err(Refused::POSITIONS)),
     ];

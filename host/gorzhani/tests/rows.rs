@@ -9,8 +9,8 @@ use checker::bytes::{converter_bytes, positions, Design, Formula, Record};
 use common::{judge_agrees, search_agrees, tick_agrees};
 use gorzhani::{Runner, CELL, RECORD};
 use samples::{
-    figure_five, handshake, mend, mend_converter, mistaken_mends, next_sixteen_next_seventeen,
-    record, ruled_handshake, state, ticking_in_turn, two_inputs,
+    figure_five, handshake, lock_and_menu, lock_and_menu_converter, mistaken_labels,
+    next_sixteen_next_seventeen, record, ruled_handshake, state, ticking_in_turn, two_inputs,
 };
 
 /// The answer to a search with the lengths that are demanded; 0 is a converter.
@@ -93,8 +93,8 @@ fn two_inputs_of_which_one_serves() {
 
 /// The kernel's bit 3 is proposition 3 and the host's bit 3 is proposition 19.
 #[test]
-fn the_mend() {
-    let kept = mend();
+fn lock_and_menu_are_told_apart() {
+    let kept = lock_and_menu();
     let bytes = kept.to_bytes();
     // The label words of k0, k1, m0 and m1, and the records of 3, 19 and AX 19.
     let words = [4, 24, 516, 536].map(|at| [bytes[at], bytes[at + 1]]);
@@ -102,10 +102,10 @@ fn the_mend() {
     assert_eq!(bytes[1_028..1_040], [3, 3, 0, 0, 3, 19, 0, 0, 7, 1, 0, 0]);
     assert_eq!((kept.kept().len(), positions(&kept)), (3, 32));
     assert_eq!(searched(&kept), 0);
-    assert_eq!(judged(&kept, &mend_converter()), 0);
-    for mistaken in mistaken_mends() {
+    assert_eq!(judged(&kept, &lock_and_menu_converter()), 0);
+    for mistaken in mistaken_labels() {
         assert_eq!(searched(&mistaken), 16);
-        assert_eq!(judged(&mistaken, &mend_converter()), 15);
+        assert_eq!(judged(&mistaken, &lock_and_menu_converter()), 15);
     }
 }
 

@@ -109,33 +109,33 @@ pub fn next_sixteen_next_seventeen() -> Vec<Formula> {
     vec![Formula::Proposition(16), Formula::Proposition(17), Formula::Next(0), Formula::Next(1)]
 }
 
-/// The sides of the mend, which only tick, from each state to the other: k0 and m1
-/// have bit 3.
-fn mend_sides() -> [Vec<State>; 2] {
+/// The sides of lock and menu, which only tick, from each state to the other: k0 and
+/// m1 have bit 3.
+fn lock_and_menu_sides() -> [Vec<State>; 2] {
     [
         vec![state(&[3], &[(0, 1)]), state(&[], &[(0, 0)])],
         vec![state(&[], &[(0, 1)]), state(&[3], &[(0, 0)])],
     ]
 }
 
-/// The mend: 3 and AX 19.
-pub fn mend() -> Design {
+/// Lock and menu: 3 and AX 19.
+pub fn lock_and_menu() -> Design {
     let formulas = vec![Formula::Proposition(3), Formula::Proposition(19), Formula::Next(1)];
-    Design { sides: mend_sides(), formulas, rules: vec![0, 2] }
+    Design { sides: lock_and_menu_sides(), formulas, rules: vec![0, 2] }
 }
 
-/// The mend with a rule that takes the label of one side for the other's: 19, or AX 3.
-pub fn mistaken_mends() -> [Design; 2] {
+/// The same with a rule that takes the label of one side for the other's: 19, or AX 3.
+pub fn mistaken_labels() -> [Design; 2] {
     let host_first = vec![Formula::Proposition(19)];
     let kernel_next = vec![Formula::Proposition(3), Formula::Next(0)];
     [
-        Design { sides: mend_sides(), formulas: host_first, rules: vec![0] },
-        Design { sides: mend_sides(), formulas: kernel_next, rules: vec![1] },
+        Design { sides: lock_and_menu_sides(), formulas: host_first, rules: vec![0] },
+        Design { sides: lock_and_menu_sides(), formulas: kernel_next, rules: vec![1] },
     ]
 }
 
-/// The converter of the mend: both sides tick, from (k0, m0) to (k1, m1) and back.
-pub fn mend_converter() -> Vec<Record> {
+/// The converter T: both sides tick, from (k0, m0) to (k1, m1) and back.
+pub fn lock_and_menu_converter() -> Vec<Record> {
     vec![record([0, 0], &[([0, 0], 1)]), record([1, 1], &[([0, 0], 0)])]
 }
 
