@@ -15,7 +15,7 @@ most-formulas = 64
 abbrev pub most-rules : ℕ
 most-rules = 16
 
--- Propositions are from 0 to 31: the labels of every side.
+-- Propositions are the labels of every side: of two sides, 0 to 31.
 abbrev pub last-proposition : ℕ
 last-proposition = side-labels * side-count - 1
 

@@ -42,7 +42,7 @@ impl FormulaRecord {
         self.kind == 8
     }
 
-    // Whether the kind is known, and the operands are lower than the formula's own number k or, of a proposition, a label of some side.
+    // Whether the kind is known, and the operands are lower than the formula's own number k or, of a proposition, a label of one of the sides.
     pub fn is_right(self, k: usize) -> bool
         ensures { λ r. ⌜ r ≡ (known-kind (self .kind) && form-right k (formula-of self)) ⌝ }
     {

@@ -1,4 +1,5 @@
--- A label belongs to one side: labels 0 to 15 are the first side's, and those from 16 on are the other sides' by themselves. Then both lines for two sides, kernel and host.
+-- A label belongs to one side: propositions 0 to 15 are the first side's labels, and those from 16 on are the other sides' by themselves. Then the same of a pair,
+-- kernel and host.
 use mathlib.Core.Path.{_≡_, _∙_}
 use mathlib.Core.Bool.{false}
 use mathlib.Core.List.{List, [], _∷_}

@@ -144,7 +144,8 @@ fork-first = at 0 0 (pair tick (minus 1) 1 ∷ []) ∷ at 0 1 (pair tick tick 1 
 abbrev pub fork-open : Converter
 fork-open = at 0 0 (pair tick (minus 1) 1 ∷ pair tick (minus 2) 2 ∷ []) ∷ at 0 1 (pair tick tick 1 ∷ []) ∷ at 0 2 (pair tick tick 2 ∷ []) ∷ []
 
--- ---- lock and menu: kernel and host each have a state with bit 3 set and one without. They tick in turn, so that the lock is held where the menu is shut.
+-- ---- lock and menu: kernel and host each have a state with bit 3 set and one without. Both only tick, to and fro, so that the lock is held where the menu is
+-- shut.
 abbrev lock-menu : List Side
 lock-menu =
     (labelling 8 (on tick 1 ∷ []) ∷ labelling 0 (on tick 0 ∷ []) ∷ [])

@@ -27,7 +27,7 @@ pub const FORK: [u8; 60] = *b"\
     \x01\0\x01\0\0\x01\0\0\0\0\0\0\0\0\0\0\0\0\0\0\
     \x02\0\x01\0\0\x02\0\0\0\0\0\0\0\0\0\0\0\0\0\0";
 
-// Bit 3 set by both sides, who tick in turn: the kernel's lock is held at first (3), the host's menu is open one tick later (19).
+// Bit 3 set by both sides, which only tick, to and fro: the kernel's lock is held at first (3), the host's menu is open one tick later (19).
 pub const LOCK: [u8; 40] = *b"\
     \x08\0\x01\0\0\x01\0\0\0\0\0\0\0\0\0\0\0\0\0\0\
     \0\0\x01\0\0\0\0\0\0\0\0\0\0\0\0\0\0\0\0\0";
@@ -114,7 +114,7 @@ pub const FORK_OPEN: [u8; 108] = *b"\
     \0\x01\x01\0\0\0\x01\0\0\0\0\0\0\0\0\0\0\0\0\0\0\0\0\0\0\0\0\0\0\0\0\0\0\0\0\0\
     \0\x02\x01\0\0\0\x02\0\0\0\0\0\0\0\0\0\0\0\0\0\0\0\0\0\0\0\0\0\0\0\0\0\0\0\0\0";
 
-// The converter T of lock and menu: both tick in turn.
+// The converter T of lock and menu: both tick, to and fro.
 pub const IN_STEP: [u8; 72] = *b"\
     \0\0\x01\0\0\0\x01\0\0\0\0\0\0\0\0\0\0\0\0\0\0\0\0\0\0\0\0\0\0\0\0\0\0\0\0\0\
     \x01\x01\x01\0\0\0\0\0\0\0\0\0\0\0\0\0\0\0\0\0\0\0\0\0\0\0\0\0\0\0\0\0\0\0\0\0";

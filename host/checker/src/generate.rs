@@ -152,7 +152,7 @@ fn state(random: &mut Random, shape: &Shape, own: usize, states: usize, reads: b
 }
 
 /// A label word, with each label half of the time. Both sides use the same bits, so
-/// that it tells whether one side's label is taken for the other's.
+/// that a test tells whether one side's label is taken for the other's.
 fn label(random: &mut Random, shape: &Shape) -> u16 {
     (random.bits() >> 16) as u16 & (u16::MAX >> (SIDE_LABELS - shape.propositions))
 }

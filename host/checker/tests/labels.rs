@@ -73,7 +73,7 @@ fn holds_of_some_side(design: &Design, pair: Pair, p: u8) -> bool {
 }
 
 #[test]
-fn either_side_has_every_label_asked_for() {
+fn some_side_has_every_label_asked_for() {
     // 3 and 19 are asked at the start, AX 19 and AX 3 at the one pair that comes next.
     for p in [3, 19] {
         assert!(holds_of_some_side(&lock_and_menu(), [0, 0], p));

@@ -60,8 +60,8 @@ fn searched(bytes: &[u8]) -> u8 {
     search_agrees(bytes, RECORD * size, CELL * size)
 }
 
-/// By the paper's Definition 2, where it holds of some side, thousands would end
-/// otherwise.
+/// By the paper's Definition 2, where a proposition holds of some side, thousands would
+/// end otherwise.
 #[test]
 fn searches() {
     let mut random = Random::new(1_001);
