@@ -75,7 +75,7 @@ enum {
     GORZHANI_REFUSED_TRANSITIONS = 5,
     /* a state is neither input, output-only nor delayed */
     GORZHANI_REFUSED_STATE_KIND = 6,
-    /* a formula has an unknown kind, an operand not lower or a proposition over 15, or a rule names no formula */
+    /* a formula has an unknown kind, an operand not lower or a proposition over 31, or a rule names no formula */
     GORZHANI_REFUSED_FORMULA = 7,
     /* an unused byte outside converter records isn't zero */
     GORZHANI_REFUSED_UNUSED_BYTE = 8,

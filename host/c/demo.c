@@ -1,4 +1,5 @@
-/* From a design to ticks, over the C header alone: the handshake pair of the README's example with no rules. Prints what each call answered. */
+/* From a design to ticks, over the C header alone: the handshake pair of the README's example with no rules. Then rules over labels, each of which belongs to
+ * one side. Prints what each call answered. */
 #include <stdio.h>
 #include <stdlib.h>
 #include <string.h>
@@ -38,6 +39,38 @@ static const char *declined(int32_t answer, int number) {
     return answer == -number ? "refused" : "another answer";
 }
 
+/* What a search answered. */
+static const char *found(int32_t records) {
+    return records > 0 ? "found" : records == -GORZHANI_REFUSED_NO_CONVERTER ? "found that none exists" : "refused";
+}
+
+/* Two sides that only tick, to and fro. State 0 of the kernel has label 3, and so has state 1 of the host. The one rule is formula 0: a proposition holds. */
+static void ruled_by(int proposition) {
+    const int8_t to_0[] = {0, 0}, to_1[] = {0, 1};
+    uint8_t *formula = design + 1024 + 4;
+    memset(design, 0, sizeof design);
+    state(0, 0, 1 << 3, 1, to_1);
+    state(0, 1, 0, 1, to_0);
+    state(1, 0, 0, 1, to_1);
+    state(1, 1, 1 << 3, 1, to_0);
+    formula[0] = 3;
+    formula[1] = (uint8_t)proposition;
+    seal(0, 2);
+    seal(1, 2);
+    seal(2, 1);
+    seal(3, 1);
+}
+
+/* Judges a converter of two records, in which both sides tick on, and searches one. There are 8 positions. */
+static void ask(int proposition) {
+    static const uint8_t converter[2 * GORZHANI_RECORD_BYTES] = {0, 0, 1, 0, 0, 0, 1, 0, [GORZHANI_RECORD_BYTES] = 1, 1, 1};
+    static uint8_t table[8 * GORZHANI_RECORD_BYTES], work[8 * GORZHANI_CELL_BYTES];
+    ruled_by(proposition);
+    int32_t judged = gorzhani_judge(design, sizeof design, converter, sizeof converter, work, sizeof work);
+    int32_t records = gorzhani_search(design, sizeof design, table, sizeof table, work, sizeof work);
+    printf("proposition %d: judge %d, search %s\n", proposition, (int)judged, found(records));
+}
+
 int main(void) {
     const int8_t s0[] = {0, 0, -1, 1}, s1[] = {0, 1, -2, 0}, t0[] = {0, 0, 1, 1}, t1[] = {2, 0};
     state(0, 0, 1 << 0, 2, s0);
@@ -56,7 +89,7 @@ int main(void) {
     uint8_t *table = lend(table_len), *work = lend(work_len);
 
     int32_t records = gorzhani_search(design, sizeof design, table, table_len, work, work_len);
-    printf("search %s\n", records > 0 ? "found" : records == -GORZHANI_REFUSED_NO_CONVERTER ? "found that none exists" : "refused");
+    printf("search %s\n", found(records));
     if (records <= 0) return 1;
     size_t size = GORZHANI_RECORD_BYTES * (size_t)records;
     printf("judge %d\n", (int)gorzhani_judge(design, sizeof design, table, size, work, work_len));
@@ -79,5 +112,10 @@ int main(void) {
     free(blocks);
     free(work);
     free(table);
+
+    /* The kernel's label 3, the host's, and one that no side has. */
+    ask(3);
+    ask(16 + 3);
+    ask(2 * 16);
     return 0;
 }

@@ -128,6 +128,10 @@ fn formulas() {
     second_formula(b"AX of itself", 7, 1, 0);
     second_formula(b"proposition 15", 3, 15, 0);
     second_formula(b"proposition 16", 3, 16, 0);
+    second_formula(b"proposition 31", 3, 31, 0);
+    second_formula(b"proposition 32", 3, 32, 0);
+    second_formula(b"not proposition 31", 4, 31, 0);
+    second_formula(b"not proposition 32", 4, 32, 0);
     second_formula(b"kind 0", 0, 0, 0);
     second_formula(b"kind 10", 10, 0, 0);
 }

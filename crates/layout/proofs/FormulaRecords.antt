@@ -6,6 +6,7 @@ use native.Mathlib.Omega.{arith}
 use borrow.Author.Tests.{lt-ltb, le-ltb, le-leb, lt-leb, eq-eqb, ne-eqb}
 use lib.Dec.{eqb, leb, ltb}
 use Rattle.model.specs.Judged.{all}
+use Rattle.layout.specs.Sizes.{last-proposition}
 use Rattle.layout.specs.Bytes.{all-zero}
 use Rattle.layout.specs.Formulas.{form-of, known-kind, absent}
 use Rattle.layout.specs.Tests.{form-right}
@@ -19,7 +20,7 @@ abbrev lower? : ℕ → ℕ → ℕ → ℕ → Bool
 lower? kind a b k = cond (ltb a k) (cond (two? kind) (ltb b k) true) false
 
 abbrev right? : ℕ → ℕ → ℕ → ℕ → Bool
-right? kind a b k = cond (ltb kind 1) false (cond (ltb 9 kind) false (cond (ltb kind 3) true (cond (ltb kind 5) (leb a 15) (lower? kind a b k))))
+right? kind a b k = cond (ltb kind 1) false (cond (ltb 9 kind) false (cond (ltb kind 3) true (cond (ltb kind 5) (leb a last-proposition) (lower? kind a b k))))
 
 both : (x y : Bool) → (x && y) ≡ cond x y false
 both true y = refl
@@ -62,7 +63,7 @@ module _ (kind a b k : ℕ) where
       let m : kind ≤ 9 = omega arith in
       right-test kind a b k ∙ rw (le-ltb kind 1 l, le-ltb 9 kind m, lt-ltb kind 3 h)
 
-  pub right-proposition : 3 ≤ kind → kind < 5 → right ≡ leb a 15
+  pub right-proposition : 3 ≤ kind → kind < 5 → right ≡ leb a last-proposition
   right-proposition l h =
       let m : kind ≤ 9 = omega arith in
       let n : 1 ≤ kind = omega arith in

@@ -1,5 +1,6 @@
 -- Specification, "Bytes" and "When a call declines": every size and every limit, in one place.
-use Prim.Native.Nat.{ℕ}
+use Prim.Native.Nat.{ℕ, _*_, _-_}
+use Rattle.model.specs.Joined.{side-labels}
 
 -- ---- what a design has
 abbrev pub side-count : ℕ
@@ -14,9 +15,9 @@ most-formulas = 64
 abbrev pub most-rules : ℕ
 most-rules = 16
 
--- propositions are from 0 to 15
+-- Propositions are the labels of every side: of two sides, 0 to 31.
 abbrev pub last-proposition : ℕ
-last-proposition = 15
+last-proposition = side-labels * side-count - 1
 
 -- transition places of a state, and of a converter record
 abbrev pub place-count : ℕ

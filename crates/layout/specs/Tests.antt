@@ -55,7 +55,7 @@ kind-right s q = is-input q || is-output-only q || is-delayed s q
 unfoldable pub kinds-right : Side → Bool
 kinds-right S = every (length S) (λ s. kind-right s (state S s))
 
--- ---- 7: of formula number k, operands that are lower and propositions up to 15
+-- ---- 7: of formula number k, operands that are lower and propositions up to the last
 unfoldable pub form-right : ℕ → Form → Bool
 form-right k truth = true
 form-right k falsity = true

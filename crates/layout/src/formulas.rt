@@ -42,7 +42,7 @@ impl FormulaRecord {
         self.kind == 8
     }
 
-    // Whether the kind is known, and the operands are lower than the formula's own number k or, of a proposition, at most 15.
+    // Whether the kind is known, and the operands are lower than the formula's own number k or, of a proposition, a label of one of the sides.
     pub fn is_right(self, k: usize) -> bool
         ensures { λ r. ⌜ r ≡ (known-kind (self .kind) && form-right k (formula-of self)) ⌝ }
     {
@@ -57,7 +57,7 @@ impl FormulaRecord {
             return true;
         }
         if kind < 5 {
-            return self.a <= sizes::LAST_PROPOSITION;
+            return self.a as usize <= sizes::LAST_PROPOSITION;
         }
         if k <= self.a as usize {
             return false;

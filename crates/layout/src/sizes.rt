@@ -9,7 +9,11 @@ pub const MOST_FORMULAS: usize = 64;
 
 pub const MOST_RULES: usize = 16;
 
-pub const LAST_PROPOSITION: u8 = 15;
+// Labels of a side, the bits of its label word; a proposition is a label of one of the sides.
+pub const SIDE_LABELS: usize = 16;
+
+pub const LAST_PROPOSITION: usize = SIDE_LABELS * SIDES - 1;
+
 // Transition places of a state, and of a converter record.
 pub const PLACES: usize = 8;
 

@@ -1,20 +1,22 @@
 -- Well-formed designs by a test that computes.
 use mathlib.Core.Path.{_≡_, refl, sym, ap, subst}
 use mathlib.Core.Bool.{Bool, true, false, not, _&&_, _||_}
-use mathlib.Core.Logic.{inl, inr, ⊎-elim}
-use mathlib.Core.List.{List, [], _∷_}
-use Prim.Native.Nat.{ℕ, zero, suc, _<_}
+use mathlib.Core.Logic.{inl, inr, ⊎-elim, _↔_}
+use mathlib.Core.List.{List, [], _∷_, List·Memᴰ as In}
+use Prim.Native.Nat.{ℕ, zero, suc, _*_, _<_}
 use native.Mathlib.Nat.{not-suc-le-zero, le-of-suc-le-suc}
+use native.Mathlib.Omega.{arith}
 use lib.IntN.{natAbs}
-use lib.Dec.{T, T-not, not-T, leb, ltb, eqb, leb→le, ltb→lt, eqb→eq}
+use lib.Dec.{T, T-not, not-T, leb, ltb, eqb, leb→le, ltb→lt, lt→ltb, eqb→eq}
 use lib.ListN.{length, getD}
 use Rattle.model.specs.Events.{Event, tick, sent, same-event}
 use Rattle.model.specs.Sides.{Move, State, Side, state, no-move, input, output-only, delayed, any-sent, WellFormedState, HasKind, WellFormedSide}
-use Rattle.model.specs.Formulas.{Form, truth, falsity, prop, nprop, conj, disj, ax, au, ag, LowerForm, PropForm}
+use Rattle.model.specs.Joined.{side-labels}
+use Rattle.model.specs.Formulas.{Form, truth, falsity, prop, nprop, conj, disj, ax, au, ag, LowerForm, Lower, PropForm, Propositions}
 use Rattle.model.specs.Designs.{Design, WellFormed}
 use Rattle.model.specs.Positions.{any}
 use Rattle.model.specs.Judged.{all}
-use Rattle.model.proofs.Bools.{and-both, or-either}
+use Rattle.model.proofs.Bools.{and-both, both-and, or-either}
 use Rattle.model.proofs.Lists.{all-in, in-any, getD-in}
 use Rattle.model.proofs.Count.{below-suc}
 use Rattle.model.proofs.StateKinds.{sent-any}
@@ -66,29 +68,41 @@ lower? k (ax a) = ltb a k
 lower? k (au a b) = ltb a k && ltb b k
 lower? k (ag a) = ltb a k
 
--- and propositions at most 15
-unfoldable pub prop? : Form → Bool
-prop? truth = true
-prop? falsity = true
-prop? (prop p) = leb p 15
-prop? (nprop p) = leb p 15
-prop? (conj a b) = true
-prop? (disj a b) = true
-prop? (ax a) = true
-prop? (au a b) = true
-prop? (ag a) = true
+-- and propositions are labels of n sides
+unfoldable pub prop? : ℕ → Form → Bool
+prop? n truth = true
+prop? n falsity = true
+prop? n (prop p) = ltb p (side-labels * n)
+prop? n (nprop p) = ltb p (side-labels * n)
+prop? n (conj a b) = true
+prop? n (disj a b) = true
+prop? n (ax a) = true
+prop? n (au a b) = true
+prop? n (ag a) = true
+
+unfoldable pub props? : Design → Bool
+props? D = all-below (λ k. prop? (length (D .sides)) (getD (D .forms) k truth)) (length (D .forms))
+
+-- a design but for its propositions
+unfoldable pub parts? : Design → Bool
+parts? D =
+    all side? (D .sides) && all-below (λ k. lower? k (getD (D .forms) k truth)) (length (D .forms))
+    && all (λ r. ltb r (length (D .forms))) (D .rules)
 
 -- a whole design
 unfoldable pub well-formed? : Design → Bool
-well-formed? D =
-    all side? (D .sides) && all-below (λ k. lower? k (getD (D .forms) k truth)) (length (D .forms)) && all-below (λ k. prop? (getD (D .forms) k truth)) (length (D .forms))
-    && all (λ r. ltb r (length (D .forms))) (D .rules)
+well-formed? D = parts? D && props? D
 
 -- ---- what each test says, from the parts to the whole
 below-all : (p : ℕ → Bool) (n : ℕ) → T (all-below p n) → (i : ℕ) → i < n → T (p i)
 unfolding all-below
 below-all p zero t i h = absurd (not-suc-le-zero h)
 below-all p (suc n) t i h = let w = and-both (p n) (all-below p n) t in below-suc (λ i. T (p i)) n (below-all p n (w .1)) (w .0) i h
+
+all-below-all : (p : ℕ → Bool) (n : ℕ) → ((i : ℕ) → i < n → T (p i)) → T (all-below p n)
+unfolding all-below
+all-below-all p zero f = tt
+all-below-all p (suc n) f = both-and (p n) (all-below p n) (f n (omega arith)) (all-below-all p n (λ i h. f i (omega arith)))
 
 -- the first move's event stands at no later move
 first-alone : (m : Move) (ms : List Move) → T (distinct? (m ∷ ms)) → (k : ℕ) → k < length ms → m .event ≡ getD ms k no-move .event → ⊥
@@ -186,33 +200,47 @@ lower-formed k (ax a) t = ltb→lt a k t
 lower-formed k (au a b) t = two-lower a b k t
 lower-formed k (ag a) t = ltb→lt a k t
 
-prop-formed : (r : Form) → T (prop? r) → PropForm r
+prop-formed : (n : ℕ) (r : Form) → T (prop? n r) ↔ PropForm n r
 unfolding prop?
-prop-formed truth t = tt
-prop-formed falsity t = tt
-prop-formed (prop p) t = leb→le p 15 t
-prop-formed (nprop p) t = leb→le p 15 t
-prop-formed (conj a b) t = tt
-prop-formed (disj a b) t = tt
-prop-formed (ax a) t = tt
-prop-formed (au a b) t = tt
-prop-formed (ag a) t = tt
+prop-formed n truth = (λ t. tt, λ t. tt)
+prop-formed n falsity = (λ t. tt, λ t. tt)
+prop-formed n (prop p) = (ltb→lt p (side-labels * n), lt→ltb p (side-labels * n))
+prop-formed n (nprop p) = (ltb→lt p (side-labels * n), lt→ltb p (side-labels * n))
+prop-formed n (conj a b) = (λ t. tt, λ t. tt)
+prop-formed n (disj a b) = (λ t. tt, λ t. tt)
+prop-formed n (ax a) = (λ t. tt, λ t. tt)
+prop-formed n (au a b) = (λ t. tt, λ t. tt)
+prop-formed n (ag a) = (λ t. tt, λ t. tt)
 
--- a design that passes the test is well formed
-pub formed : (D : Design) → T (well-formed? D) → WellFormed D
-unfolding well-formed?
-formed D t =
-    let n = length (D .forms) in
-    let a = all side? (D .sides) in
-    let b = all-below (λ k. lower? k (getD (D .forms) k truth)) n in
-    let c = all-below (λ k. prop? (getD (D .forms) k truth)) n in
-    let d = all (λ r. ltb r n) (D .rules) in
-    let u = and-both (a && b && c) d t in
-    let w = and-both (a && b) c (u .0) in
-    let x = and-both a b (w .0) in
-    record {
-      each-side = λ S i. side-formed S (all-in side? i (x .0));
-      lower = λ k h. lower-formed k (getD (D .forms) k truth) (below-all (λ k. lower? k (getD (D .forms) k truth)) n (x .1) k h);
-      propositions = λ k h. prop-formed (getD (D .forms) k truth) (below-all (λ k. prop? (getD (D .forms) k truth)) n (w .1) k h);
-      rules-there = λ r i. ltb→lt r n (all-in (λ r. ltb r n) i (u .1));
-    }
+module _ (D : Design) where
+  abbrev n : ℕ
+  n = length (D .forms)
+
+  pub props-formed : T (props? D) ↔ Propositions (length (D .sides)) (D .forms)
+  unfolding props?
+  props-formed =
+      let test : ℕ → Bool = λ k. prop? (length (D .sides)) (getD (D .forms) k truth) in (
+        λ t k h. prop-formed (length (D .sides)) (getD (D .forms) k truth) .0 (below-all test n t k h),
+        λ f. all-below-all test n (λ k h. prop-formed (length (D .sides)) (getD (D .forms) k truth) .1 (f k h)),
+      )
+
+  pub parts-formed : T (parts? D) → ((S : Side) → In S (D .sides) → WellFormedSide S) × Lower (D .forms) × ((r : ℕ) → In r (D .rules) → r < n)
+  unfolding parts?
+  parts-formed t =
+      let a = all side? (D .sides) in
+      let b = all-below (λ k. lower? k (getD (D .forms) k truth)) n in
+      let c = all (λ r. ltb r n) (D .rules) in
+      let u = and-both (a && b) c t in
+      let w = and-both a b (u .0) in (
+        λ S i. side-formed S (all-in side? i (w .0)),
+        λ k h. lower-formed k (getD (D .forms) k truth) (below-all (λ k. lower? k (getD (D .forms) k truth)) n (w .1) k h),
+        λ r i. ltb→lt r n (all-in (λ r. ltb r n) i (u .1)),
+      )
+
+  -- a design that passes the test is well formed
+  pub formed : T (well-formed? D) → WellFormed D
+  unfolding well-formed?
+  formed t =
+      let u = and-both (parts? D) (props? D) t in
+      let p = parts-formed (u .0) in
+      record { each-side = p .0; lower = p .1; propositions = props-formed .0 (u .1); rules-there = p .2 }

@@ -22,6 +22,7 @@ pub mod Labels
 pub mod Bounded
 pub mod Maps
 -- sides and matched converters
+pub mod OwnLabels
 pub mod SameEvent
 pub mod StateKinds
 pub mod Joint

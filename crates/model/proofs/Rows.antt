@@ -9,18 +9,18 @@ use Rattle.model.specs.Events.{Event, tick}
 use Rattle.model.specs.Converters.{Edge, Converter, node, side-events, any-input, any-delayed, duty, Matched}
 use Rattle.model.specs.Designs.{Design}
 use Rattle.model.specs.Sides.{any-sent, kind}
-use Rattle.model.specs.Joined.{labelled}
+use Rattle.model.specs.Joined.{label-words, own-label, labelled}
 use Rattle.model.specs.Positions.{any, is-until, is-always, is-next-of, kept, one-if, count, kept-count, until-count, joint-count, positions}
 use Rattle.model.specs.Judged.{all, tally, same-list, same-events, with-move, with-moves, joint-moves, names?, once?, follows?, fulfils?, obeys?, matched?, until-by, always-for, Verdict, accepted, unmatched, violated, number, judged}
 use Rattle.model.specs.Runs.{Runner, done, refused, fits, all-fit, first-fit, taken, ticked}
 use Rattle.model.specs.RowData.{minus}
-use Rattle.model.specs.Rows.{Row, kept-are, positions-are, judge-says, keeps-rule, fails-rule, converter-for, none-for, tick-takes, tick-refused, Meaning, rows}
+use Rattle.model.specs.Rows.{Row, well-formed, no-such-label, kept-are, positions-are, judge-says, keeps-rule, fails-rule, converter-for, none-for, tick-takes, tick-refused, Meaning, rows}
 use Rattle.model.proofs.Bools.{and-both}
 use Rattle.model.proofs.Lists.{all-in, any-in}
 use Rattle.model.proofs.JointMoves.{same-events-eq}
 use Rattle.model.proofs.MatchedTest.{matched-sound}
 use Rattle.model.proofs.Judged.{kept-at-start, label-keeps, judged-accepts}
-use Rattle.model.proofs.Formed.{all-below, distinct?, state?, sends?, kind?, side?, lower?, prop?, well-formed?, formed}
+use Rattle.model.proofs.Formed.{all-below, distinct?, state?, sends?, kind?, side?, lower?, prop?, props?, parts?, well-formed?, props-formed, parts-formed, formed}
 use Rattle.model.proofs.Ways.{both-ways, either-way, ways-all}
 use Rattle.model.proofs.Refuted.{Choice, Refutation, clash, waits, show-at, showing, every-answer, lost, covers, withheld, never, refutes, refuted-none}
 
@@ -36,7 +36,7 @@ refutations =
     clash 3 (shown-at 0 0 (minus 1) tick ∷ shown-at 1 1 tick tick ∷ shown-at 1 0 (minus 2) tick ∷ shown-at 0 1 (minus 1) tick ∷ [])
     -- H, A(true U 1): s0 waits for ever
     ∷ waits 2 (shown-at 0 0 tick tick ∷ shown-at 0 1 tick tick ∷ [])
-    -- AX 0 and AX 1: after one tick h1 lacks one label, h2 the other
+    -- AX 16 and AX 17: after one tick h1 lacks one label, h2 the other. Lock and menu: the menu is shut at first, and the lock free after one tick.
     ∷ clash 1 (shown-at 0 0 tick tick ∷ [])
     ∷ []
 
@@ -52,6 +52,8 @@ stuck none = true
 stuck (some e) = false
 
 unfoldable row-test : Row → Bool
+row-test (well-formed D) = well-formed? D
+row-test (no-such-label D) = parts? D && not (props? D)
 row-test (kept-are D n) = well-formed? D && eqb (kept-count D) n
 row-test (positions-are D n) = well-formed? D && eqb (positions D) n
 row-test (judge-says D C v) = well-formed? D && eqb (number (judged D C)) (number v)
@@ -65,9 +67,9 @@ row-test (tick-refused C c xs k) = stuck (first-fit xs (node C c .edges)) && eqb
 -- every row passes
 rows-pass : T (all row-test rows)
 unfolding row-test all any
-    well-formed? side? all-below state? distinct? kind? sends? any-sent lower? prop?
+    well-formed? parts? side? all-below state? distinct? kind? sends? any-sent lower? props? prop?
     positions joint-count kept-count kept count until-count one-if is-until is-always is-next-of
-    judged matched? obeys? names? once? follows? fulfils? joint-moves with-moves with-move same-list tally duty any-input any-delayed kind until-by always-for labelled
+    judged matched? obeys? names? once? follows? fulfils? joint-moves with-moves with-move same-list tally duty any-input any-delayed kind until-by always-for labelled own-label label-words
     refutes lost show-at showing every-answer covers withheld never ways-all both-ways either-way
     leads stuck first-fit all-fit fits
 rows-pass = tt
@@ -110,6 +112,11 @@ refuses r k (some e) t = absurd t
 
 row-means : (r : Row) → T (row-test r) → Meaning r
 unfolding row-test ticked
+row-means (well-formed D) t = formed D t
+row-means (no-such-label D) t =
+    let w = and-both (parts? D) (not (props? D)) t in
+    let p = parts-formed D (w .0) in
+    (p .0, p .1, p .2, λ f. T-not (props? D) (w .1) (props-formed D .1 f))
 row-means (kept-are D n) t = let w = and-both (well-formed? D) (eqb (kept-count D) n) t in (formed D (w .0), eqb→eq (kept-count D) n (w .1))
 row-means (positions-are D n) t = let w = and-both (well-formed? D) (eqb (positions D) n) t in (formed D (w .0), eqb→eq (positions D) n (w .1))
 row-means (judge-says D C v) t = let w = and-both (well-formed? D) (eqb (number (judged D C)) (number v)) t in (formed D (w .0), same-answer (judged D C) v (w .1))

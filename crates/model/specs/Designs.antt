@@ -20,7 +20,7 @@ pub record Design : Type 0 where
 pub record WellFormed (D : Design) : Type 0 where
   pub each-side : (S : Side) → In S (D .sides) → WellFormedSide S
   pub lower : Lower (D .forms)
-  pub propositions : Propositions (D .forms)
+  pub propositions : Propositions (length (D .sides)) (D .forms)
   pub rules-there : (r : ℕ) → In r (D .rules) → r < length (D .forms)
 
 -- ---- the lock step of the paper's Definition 6

@@ -1,7 +1,8 @@
 -- Specification, "Formulas": numbered formulas, each made from formulas with lower numbers.
 use mathlib.Core.List.{List, [], _∷_, _++_}
-use Prim.Native.Nat.{ℕ, _≤_, _<_}
+use Prim.Native.Nat.{ℕ, _*_, _<_}
 use lib.ListN.{length, getD}
+use Rattle.model.specs.Joined.{side-labels}
 use Rattle.model.specs.Actl.{Actl, verum, falsum, has, lacks, both, either, AX, AU, AG}
 
 -- kinds 1 to 9 of the specification, in order; from `conj` on the operands are numbers of formulas
@@ -50,17 +51,17 @@ LowerForm k (ag a) = a < k
 abbrev pub Lower : List Form → Type 0
 Lower fs = (k : ℕ) → k < length fs → LowerForm k (getD fs k truth)
 
--- a proposition is from 0 to 15
-abbrev pub PropForm : Form → Type 0
-PropForm truth = Unit {0}
-PropForm falsity = Unit {0}
-PropForm (prop p) = p ≤ 15
-PropForm (nprop p) = p ≤ 15
-PropForm (conj a b) = Unit {0}
-PropForm (disj a b) = Unit {0}
-PropForm (ax a) = Unit {0}
-PropForm (au a b) = Unit {0}
-PropForm (ag a) = Unit {0}
+-- a proposition is a label of one of n sides: from 0 to 31 where there are two
+abbrev pub PropForm : ℕ → Form → Type 0
+PropForm n truth = Unit {0}
+PropForm n falsity = Unit {0}
+PropForm n (prop p) = p < side-labels * n
+PropForm n (nprop p) = p < side-labels * n
+PropForm n (conj a b) = Unit {0}
+PropForm n (disj a b) = Unit {0}
+PropForm n (ax a) = Unit {0}
+PropForm n (au a b) = Unit {0}
+PropForm n (ag a) = Unit {0}
 
-abbrev pub Propositions : List Form → Type 0
-Propositions fs = (k : ℕ) → k < length fs → PropForm (getD fs k truth)
+abbrev pub Propositions : ℕ → List Form → Type 0
+Propositions n fs = (k : ℕ) → k < length fs → PropForm n (getD fs k truth)

@@ -1,5 +1,5 @@
--- Specification, "Rows": the designs and converters of the starred rows. Label words stand in the states and proposition numbers in the formulas, so that a
--- renumbering of labels changes the numbers here and nothing else.
+-- Specification, "Rows": the designs and converters of the starred rows. Label words stand in the states and proposition numbers in the formulas: bit k of the
+-- kernel's word is proposition k, bit k of the host's is 16 + k.
 use mathlib.Core.List.{List, [], _∷_, _++_}
 use Prim.Native.Nat.{ℕ, _+_}
 use lib.IntN.{pos}
@@ -50,10 +50,10 @@ abbrev r-out : ℕ
 r-out = 1
 
 abbrev idle₂ : ℕ
-idle₂ = 2
+idle₂ = 18
 
 abbrev r-in : ℕ
-r-in = 3
+r-in = 19
 
 -- records 1 and 2 of the converter F (the paper, Figure 5)
 abbrev F₁ : Node
@@ -93,11 +93,11 @@ four-rules = 8 ∷ 17 ∷ 26 ∷ 35 ∷ []
 abbrev pub H : Design
 H = design handshake [] []
 
--- H with the four rules as printed, the fourth ending AX(¬1 ∨ ¬2)
+-- H with the four rules as printed, the fourth ending AX(¬1 ∨ ¬18)
 abbrev pub H-printed : Design
 H-printed = design handshake (four (nprop idle₂)) four-rules
 
--- and with the fourth ending AX(¬1 ∨ 2), as its words say
+-- and with the fourth ending AX(¬1 ∨ 18), as its words say
 abbrev pub H-mended : Design
 H-mended = design handshake (four (prop idle₂)) four-rules
 
@@ -121,15 +121,15 @@ turns-converter = at 0 0 (pair tick tick 1 ∷ []) ∷ at 1 0 (pair tick tick 0 
 abbrev fork : List Side
 fork = ticking ∷ (labelling 0 (on (plus 1) 1 ∷ on (plus 2) 2 ∷ []) ∷ labelling 1 (on tick 1 ∷ []) ∷ labelling 2 (on tick 2 ∷ []) ∷ []) ∷ []
 
--- AX of the label of h1 and AX of the label of h2, numbers 2 and 3
+-- the label of h1 and that of h2, and AX of each, numbers 2 and 3
 abbrev nexts : List Form
-nexts = prop 0 ∷ prop 1 ∷ ax 0 ∷ ax 1 ∷ []
+nexts = prop 16 ∷ prop 17 ∷ ax 0 ∷ ax 1 ∷ []
 
--- (AX 0) or (AX 1)
+-- (AX 16) or (AX 17)
 abbrev pub fork-either : Design
 fork-either = design fork (nexts ++ (disj 2 3 ∷ [])) (4 ∷ [])
 
--- AX 0 and AX 1 both, as two rules and as one
+-- AX 16 and AX 17 both, as two rules and as one
 abbrev pub fork-two : Design
 fork-two = design fork nexts (2 ∷ 3 ∷ [])
 
@@ -143,3 +143,37 @@ fork-first = at 0 0 (pair tick (minus 1) 1 ∷ []) ∷ at 0 1 (pair tick tick 1 
 -- and the one that enables both
 abbrev pub fork-open : Converter
 fork-open = at 0 0 (pair tick (minus 1) 1 ∷ pair tick (minus 2) 2 ∷ []) ∷ at 0 1 (pair tick tick 1 ∷ []) ∷ at 0 2 (pair tick tick 2 ∷ []) ∷ []
+
+-- ---- lock and menu: kernel and host each have a state with bit 3 set and one without. Both only tick, to and fro, so that the lock is held where the menu is
+-- shut.
+abbrev lock-menu : List Side
+lock-menu =
+    (labelling 8 (on tick 1 ∷ []) ∷ labelling 0 (on tick 0 ∷ []) ∷ [])
+    ∷ (labelling 0 (on tick 1 ∷ []) ∷ labelling 8 (on tick 0 ∷ []) ∷ [])
+    ∷ []
+
+-- the kernel's bit 3 and the host's
+abbrev lock-held : ℕ
+lock-held = 3
+
+abbrev menu-open : ℕ
+menu-open = 19
+
+-- 3, and AX 19
+abbrev pub lock-then-menu : Design
+lock-then-menu = design lock-menu (prop lock-held ∷ prop menu-open ∷ ax 1 ∷ []) (0 ∷ 2 ∷ [])
+
+-- the same with each label taken for the other: 19, and AX 3
+abbrev pub menu-now : Design
+menu-now = design lock-menu (prop menu-open ∷ []) (0 ∷ [])
+
+abbrev pub lock-next : Design
+lock-next = design lock-menu (prop lock-held ∷ ax 0 ∷ []) (1 ∷ [])
+
+-- the converter T
+abbrev pub in-step : Converter
+in-step = at 0 0 (pair tick tick 1 ∷ []) ∷ at 1 1 (pair tick tick 0 ∷ []) ∷ []
+
+-- a formula for proposition p, and one for its absence
+abbrev pub naming : ℕ → Design
+naming p = design lock-menu (prop p ∷ nprop p ∷ []) []

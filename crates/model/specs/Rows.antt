@@ -1,16 +1,23 @@
 -- Specification, "Rows": the starred rows in one table, and what each says of the definitions. `proofs/Rows` `starred-rows` shows that every row is true.
 use mathlib.Core.Path.{_≡_}
 use mathlib.Core.List.{List, [], _∷_, List·Memᴰ as In}
-use Prim.Native.Nat.{ℕ}
+use Prim.Native.Nat.{ℕ, _<_}
+use lib.ListN.{length}
 use Rattle.model.specs.Events.{Event, tick}
+use Rattle.model.specs.Sides.{Side, WellFormedSide}
 use Rattle.model.specs.Converters.{Converter, Matched}
+use Rattle.model.specs.Formulas.{Lower, Propositions}
 use Rattle.model.specs.Designs.{Design, WellFormed, Keeps, Works, NoneWorks}
 use Rattle.model.specs.Positions.{kept-count, positions}
 use Rattle.model.specs.Judged.{Verdict, accepted, unmatched, violated, judged}
 use Rattle.model.specs.Runs.{done, refused, ticked}
-use Rattle.model.specs.RowData.{plus, minus, H, H-printed, H-mended, H-until, F, F-deaf, F-third, turns, turns-converter, fork-either, fork-two, fork-both, fork-first, fork-open}
+use Rattle.model.specs.RowData.{plus, minus, H, H-printed, H-mended, H-until, F, F-deaf, F-third, turns, turns-converter, fork-either, fork-two, fork-both, fork-first, fork-open, lock-then-menu, menu-now, lock-next, in-step, naming}
 
 pub data Row : Type 0 where
+  -- a design that none of 5 to 7 refuses
+  well-formed : Design → Row
+  -- one that 7 refuses, and for a proposition alone
+  no-such-label : Design → Row
   -- how many formulas of the design are kept
   kept-are : Design → ℕ → Row
   -- how many positions it has
@@ -30,6 +37,10 @@ pub data Row : Type 0 where
 
 -- what a row says of the definitions; of a tick, whatever was delivered before
 abbrev pub Meaning : Row → Type 0
+Meaning (well-formed D) = WellFormed D
+Meaning (no-such-label D) =
+    ((S : Side) → In S (D .sides) → WellFormedSide S) × Lower (D .forms) × ((r : ℕ) → In r (D .rules) → r < length (D .forms))
+    × (Propositions (length (D .sides)) (D .forms) → ⊥)
 Meaning (kept-are D n) = WellFormed D × (kept-count D ≡ n)
 Meaning (positions-are D n) = WellFormed D × (positions D ≡ n)
 Meaning (judge-says D C v) = WellFormed D × (judged D C ≡ v)
@@ -56,7 +67,7 @@ rows =
     -- F against them: 15; the first three hold, the fourth fails
     ∷ judge-says H-printed F violated ∷ keeps-rule H-printed F 8 ∷ keeps-rule H-printed F 17 ∷ keeps-rule H-printed F 26
     ∷ fails-rule H-printed F 35
-    -- with the fourth ending AX(¬1 ∨ 2): F passes, a converter is found
+    -- with the fourth ending AX(¬1 ∨ 18): F passes, a converter is found
     ∷ judge-says H-mended F accepted ∷ converter-for H-mended F
     -- H, A(true U 1): 8 positions, 16
     ∷ positions-are H-until 8 ∷ none-for H-until
@@ -66,8 +77,14 @@ rows =
     ∷ tick-takes F 1 (minus 2 ∷ tick ∷ []) 2 (minus 2 ∷ plus 1 ∷ []) ∷ tick-refused F 0 (minus 2 ∷ tick ∷ []) 17
     -- two states ticking in turn, AG(A(true U 0) ∧ A(true U 1)): 32 positions, a converter
     ∷ positions-are turns 32 ∷ converter-for turns turns-converter
-    -- (AX 0) or (AX 1): 24 positions, a converter; one that enables both inputs: 15
+    -- (AX 16) or (AX 17): 24 positions, a converter; one that enables both inputs: 15
     ∷ positions-are fork-either 24 ∷ converter-for fork-either fork-first ∷ judge-says fork-either fork-open violated
-    -- AX 0 and AX 1 both, as two rules and as one: 16
+    -- AX 16 and AX 17 both, as two rules and as one: 16
     ∷ none-for fork-two ∷ none-for fork-both
+    -- bit 3 set by both sides. 3, and AX 19: 32 positions, a converter
+    ∷ positions-are lock-then-menu 32 ∷ converter-for lock-then-menu in-step
+    -- 19 in place of 3, and 3 in place of 19: 16, and that converter: 15
+    ∷ none-for menu-now ∷ judge-says menu-now in-step violated ∷ none-for lock-next ∷ judge-says lock-next in-step violated
+    -- 31 is taken, 32 is refused with 7
+    ∷ well-formed (naming 31) ∷ no-such-label (naming 32)
     ∷ []

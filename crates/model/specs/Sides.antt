@@ -13,7 +13,7 @@ pub record Move : Type 0 where
   pub event : Event
   pub target : ℕ
 
--- Bit k of the label word is set where proposition k holds: 16 bits in the specification; no formula names a higher one.
+-- Bit k of the label word is set where the side's label k holds: 16 bits in the specification; no proposition is a higher one.
 pub record State : Type 0 where
   pub label : ℕ
   pub moves : List Move

@@ -1,6 +1,6 @@
 -- Tests 5, 6 and 7 of a design's bytes say what the model's predicates say of the design that the bytes spell, and a design that is not refused is well
 -- formed.
-use mathlib.Core.Path.{_≡_, ap, subst}
+use mathlib.Core.Path.{_≡_, ap, subst, subst⁻¹}
 use mathlib.Core.Bool.{_&&_}
 use mathlib.Core.Logic.{_↔_, ⊎-elim}
 use mathlib.Core.List.{
@@ -22,13 +22,14 @@ use Rattle.model.specs.Designs.{WellFormed}
 use Rattle.model.specs.Judged.{all}
 use Rattle.model.proofs.Bools.{and-both, both-and}
 use Rattle.model.proofs.Lists.{all-in, in-all, of-map}
-use Rattle.layout.specs.Sizes.{design-bytes}
+use Rattle.layout.specs.Sizes.{side-count, design-bytes}
 use Rattle.layout.specs.Blocks.{Block, kernel, host, formulas, rules, side-blocks, design-blocks, record-count, record-place}
 use Rattle.layout.specs.States.{state-at, state-of}
 use Rattle.layout.specs.Designs.{side-in, design}
 use Rattle.layout.specs.Tests.{side-right, kinds-right, forms-right, rules-right}
 use Rattle.refusals.specs.Refusals.{check-right, header-right, count-right, unused-right, kinds-known, formulas-right, design-refusal}
 use Rattle.layout.proofs.Tables.{length-table}
+use Rattle.layout.proofs.DesignBytes.{sides-two}
 use Rattle.refusals.proofs.StateTests.{side-states-formed, side-kinds-formed}
 use Rattle.refusals.proofs.FormulaTests.{formulas-formed, rules-formed}
 use Rattle.refusals.proofs.Passing.{passes}
@@ -49,7 +50,7 @@ kinds-test Ss =
 pub record FormulasRight (bs : List ℕ) : Type 0 where
   pub known : T (kinds-known bs)
   pub lower : Lower (design bs .forms)
-  pub propositions : Propositions (design bs .forms)
+  pub propositions : Propositions side-count (design bs .forms)
   pub rules-there : (r : ℕ) → In r (design bs .rules) → r < length (design bs .forms)
 
 pub formulas-test : (bs : List ℕ) → T (formulas-right bs) ↔ FormulasRight bs
@@ -132,8 +133,17 @@ side-formed bs p S i =
       kinds = kinds-test (design bs .sides) .0 (p .kinds) S i;
     }
 
+-- propositions are labels of the sides that a design has
+pub own-propositions : (bs : List ℕ) → design-refusal bs ≡ 0 → Propositions side-count (design bs .forms)
+own-propositions bs e = formulas-test bs .0 (passed bs e .formulas) .propositions
+
 pub well-formed : (bs : List ℕ) → design-refusal bs ≡ 0 → WellFormed (design bs)
 well-formed bs e =
     let p = passed bs e in
     let f = formulas-test bs .0 (p .formulas) in
-    record { each-side = side-formed bs p; lower = f .lower; propositions = f .propositions; rules-there = f .rules-there }
+    record {
+      each-side = side-formed bs p;
+      lower = f .lower;
+      propositions = subst⁻¹ (λ (n : ℕ). Propositions n (design bs .forms)) (sides-two bs) (own-propositions bs e);
+      rules-there = f .rules-there;
+    }

@@ -1,13 +1,14 @@
 // The designs and converters of the rows, as the bytes of their records. An event -n stands as 256 - n, so that -1 is \xff and -2 is \xfe.
 
-// ---- sides, a line to a state: the label word, the count, 0, and for each transition the event and the target
+// ---- sides, a line to a state: the label word, the count, 0, and for each transition the event and the target. Bit k of the word is proposition k of the kernel,
+// 16 + k of the host.
 
-// The handshake pair H. s0 has label 0 and s1 label 1: each ticks back to itself or sends.
+// The handshake pair H. s0 has proposition 0 and s1 has 1: each ticks back to itself or sends.
 pub const H_KERNEL: [u8; 40] = *b"\
     \x01\0\x02\0\0\0\xff\x01\0\0\0\0\0\0\0\0\0\0\0\0\
     \x02\0\x02\0\0\x01\xfe\0\0\0\0\0\0\0\0\0\0\0\0\0";
 
-// t0 has label 2: a tick, or 1 to t1. t1 has label 3: 2 to t0.
+// t0 has 18: a tick, or 1 to t1. t1 has 19: 2 to t0.
 pub const H_HOST: [u8; 40] = *b"\
     \x04\0\x02\0\0\0\x01\x01\0\0\0\0\0\0\0\0\0\0\0\0\
     \x08\0\x01\0\x02\0\0\0\0\0\0\0\0\0\0\0\0\0\0\0";
@@ -15,33 +16,42 @@ pub const H_HOST: [u8; 40] = *b"\
 // One ticking state.
 pub const TICKING: [u8; 20] = *b"\0\0\x01\0\0\0\0\0\0\0\0\0\0\0\0\0\0\0\0\0";
 
-// Two states ticking in turn, labels 0 and 1.
+// Two states ticking in turn, with propositions 0 and 1.
 pub const TURNS: [u8; 40] = *b"\
     \x01\0\x01\0\0\x01\0\0\0\0\0\0\0\0\0\0\0\0\0\0\
     \x02\0\x01\0\0\0\0\0\0\0\0\0\0\0\0\0\0\0\0\0";
 
-// h0 (1 to h1, 2 to h2), h1 label 0, h2 label 1, both ticking.
+// h0 (1 to h1, 2 to h2), h1 with 16 and h2 with 17, both ticking.
 pub const FORK: [u8; 60] = *b"\
     \0\0\x02\0\x01\x01\x02\x02\0\0\0\0\0\0\0\0\0\0\0\0\
     \x01\0\x01\0\0\x01\0\0\0\0\0\0\0\0\0\0\0\0\0\0\
     \x02\0\x01\0\0\x02\0\0\0\0\0\0\0\0\0\0\0\0\0\0";
 
+// Bit 3 set by both sides, which only tick, to and fro: the kernel's lock is held at first (3), the host's menu is open one tick later (19).
+pub const LOCK: [u8; 40] = *b"\
+    \x08\0\x01\0\0\x01\0\0\0\0\0\0\0\0\0\0\0\0\0\0\
+    \0\0\x01\0\0\0\0\0\0\0\0\0\0\0\0\0\0\0\0\0";
+
+pub const MENU: [u8; 40] = *b"\
+    \0\0\x01\0\0\x01\0\0\0\0\0\0\0\0\0\0\0\0\0\0\
+    \x08\0\x01\0\0\0\0\0\0\0\0\0\0\0\0\0\0\0\0\0";
+
 // ---- formulas, four bytes each: the kind, two operands, 0
 
 // The paper's four rules for H, a line to a rule: AG(not p or not q or AX(r or t)) is the nine formulas not p, not q, their or x, r, t, their or y, AX y, x or AX y,
-// and AG of it. The fourth rule ends AX(not 1 or not 2) as printed.
+// and AG of it. The fourth rule ends AX(not 1 or not 18) as printed.
 pub const PRINTED: [u8; 144] = *b"\
-    \x04\0\0\0\x04\x02\0\0\x06\0\x01\0\x03\x01\0\0\x04\x03\0\0\x06\x03\x04\0\x07\x05\0\0\x06\x02\x06\0\x09\x07\0\0\
-    \x04\x03\0\0\x04\x01\0\0\x06\x09\x0a\0\x03\0\0\0\x04\x02\0\0\x06\x0c\x0d\0\x07\x0e\0\0\x06\x0b\x0f\0\x09\x10\0\0\
-    \x04\x01\0\0\x04\x02\0\0\x06\x12\x13\0\x03\x03\0\0\x04\0\0\0\x06\x15\x16\0\x07\x17\0\0\x06\x14\x18\0\x09\x19\0\0\
-    \x04\0\0\0\x04\x03\0\0\x06\x1b\x1c\0\x04\x01\0\0\x04\x02\0\0\x06\x1e\x1f\0\x07\x20\0\0\x06\x1d\x21\0\x09\x22\0\0";
+    \x04\0\0\0\x04\x12\0\0\x06\0\x01\0\x03\x01\0\0\x04\x13\0\0\x06\x03\x04\0\x07\x05\0\0\x06\x02\x06\0\x09\x07\0\0\
+    \x04\x13\0\0\x04\x01\0\0\x06\x09\x0a\0\x03\0\0\0\x04\x12\0\0\x06\x0c\x0d\0\x07\x0e\0\0\x06\x0b\x0f\0\x09\x10\0\0\
+    \x04\x01\0\0\x04\x12\0\0\x06\x12\x13\0\x03\x13\0\0\x04\0\0\0\x06\x15\x16\0\x07\x17\0\0\x06\x14\x18\0\x09\x19\0\0\
+    \x04\0\0\0\x04\x13\0\0\x06\x1b\x1c\0\x04\x01\0\0\x04\x12\0\0\x06\x1e\x1f\0\x07\x20\0\0\x06\x1d\x21\0\x09\x22\0\0";
 
-// The same, the fourth mended: it ends AX(not 1 or 2).
+// The same, the fourth mended: it ends AX(not 1 or 18).
 pub const MENDED: [u8; 144] = *b"\
-    \x04\0\0\0\x04\x02\0\0\x06\0\x01\0\x03\x01\0\0\x04\x03\0\0\x06\x03\x04\0\x07\x05\0\0\x06\x02\x06\0\x09\x07\0\0\
-    \x04\x03\0\0\x04\x01\0\0\x06\x09\x0a\0\x03\0\0\0\x04\x02\0\0\x06\x0c\x0d\0\x07\x0e\0\0\x06\x0b\x0f\0\x09\x10\0\0\
-    \x04\x01\0\0\x04\x02\0\0\x06\x12\x13\0\x03\x03\0\0\x04\0\0\0\x06\x15\x16\0\x07\x17\0\0\x06\x14\x18\0\x09\x19\0\0\
-    \x04\0\0\0\x04\x03\0\0\x06\x1b\x1c\0\x04\x01\0\0\x03\x02\0\0\x06\x1e\x1f\0\x07\x20\0\0\x06\x1d\x21\0\x09\x22\0\0";
+    \x04\0\0\0\x04\x12\0\0\x06\0\x01\0\x03\x01\0\0\x04\x13\0\0\x06\x03\x04\0\x07\x05\0\0\x06\x02\x06\0\x09\x07\0\0\
+    \x04\x13\0\0\x04\x01\0\0\x06\x09\x0a\0\x03\0\0\0\x04\x12\0\0\x06\x0c\x0d\0\x07\x0e\0\0\x06\x0b\x0f\0\x09\x10\0\0\
+    \x04\x01\0\0\x04\x12\0\0\x06\x12\x13\0\x03\x13\0\0\x04\0\0\0\x06\x15\x16\0\x07\x17\0\0\x06\x14\x18\0\x09\x19\0\0\
+    \x04\0\0\0\x04\x13\0\0\x06\x1b\x1c\0\x04\x01\0\0\x03\x12\0\0\x06\x1e\x1f\0\x07\x20\0\0\x06\x1d\x21\0\x09\x22\0\0";
 
 // The formula numbers of the four rules.
 pub const FOUR: [u8; 4] = [8, 17, 26, 35];
@@ -59,14 +69,23 @@ pub const UNTILS: [u8; 52] = *b"\x01\0\0\0\
 pub const TURNS_ALWAYS: [u8; 28] =
     *b"\x01\0\0\0\x03\0\0\0\x03\x01\0\0\x08\0\x01\0\x08\0\x02\0\x05\x03\x04\0\x09\x05\0\0";
 
-// For the fork: 0, 1, AX 0 and AX 1.
-pub const NEXTS: [u8; 16] = [3, 0, 0, 0, 3, 1, 0, 0, 7, 0, 0, 0, 7, 1, 0, 0];
+// For the fork: 16, 17, AX 16 and AX 17.
+pub const NEXTS: [u8; 16] = [3, 16, 0, 0, 3, 17, 0, 0, 7, 0, 0, 0, 7, 1, 0, 0];
 
-// The same, and (AX 0) or (AX 1).
-pub const EITHER: [u8; 20] = [3, 0, 0, 0, 3, 1, 0, 0, 7, 0, 0, 0, 7, 1, 0, 0, 6, 2, 3, 0];
+// The same, and (AX 16) or (AX 17).
+pub const EITHER: [u8; 20] = [3, 16, 0, 0, 3, 17, 0, 0, 7, 0, 0, 0, 7, 1, 0, 0, 6, 2, 3, 0];
 
-// The same, and (AX 0) and (AX 1).
-pub const BOTH: [u8; 20] = [3, 0, 0, 0, 3, 1, 0, 0, 7, 0, 0, 0, 7, 1, 0, 0, 5, 2, 3, 0];
+// The same, and (AX 16) and (AX 17).
+pub const BOTH: [u8; 20] = [3, 16, 0, 0, 3, 17, 0, 0, 7, 0, 0, 0, 7, 1, 0, 0, 5, 2, 3, 0];
+
+// For lock and menu: 3, 19, and AX 19.
+pub const LOCK_THEN_MENU: [u8; 12] = [3, 3, 0, 0, 3, 19, 0, 0, 7, 1, 0, 0];
+
+// 19 alone.
+pub const MENU_NOW: [u8; 4] = [3, 19, 0, 0];
+
+// 3, and AX 3.
+pub const LOCK_NEXT: [u8; 8] = [3, 3, 0, 0, 7, 0, 0, 0];
 
 // ---- converters, a line to a record: the two side states, the count, 0, and for each transition an event for each side and the next record
 
@@ -94,3 +113,8 @@ pub const FORK_OPEN: [u8; 108] = *b"\
     \0\0\x02\0\0\xff\x01\0\0\xfe\x02\0\0\0\0\0\0\0\0\0\0\0\0\0\0\0\0\0\0\0\0\0\0\0\0\0\
     \0\x01\x01\0\0\0\x01\0\0\0\0\0\0\0\0\0\0\0\0\0\0\0\0\0\0\0\0\0\0\0\0\0\0\0\0\0\
     \0\x02\x01\0\0\0\x02\0\0\0\0\0\0\0\0\0\0\0\0\0\0\0\0\0\0\0\0\0\0\0\0\0\0\0\0\0";
+
+// The converter T of lock and menu: both tick, to and fro.
+pub const IN_STEP: [u8; 72] = *b"\
+    \0\0\x01\0\0\0\x01\0\0\0\0\0\0\0\0\0\0\0\0\0\0\0\0\0\0\0\0\0\0\0\0\0\0\0\0\0\
+    \x01\x01\x01\0\0\0\0\0\0\0\0\0\0\0\0\0\0\0\0\0\0\0\0\0\0\0\0\0\0\0\0\0\0\0\0\0";

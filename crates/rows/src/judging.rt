@@ -1,6 +1,7 @@
 // Rows of the judge. 0 is yes.
-ghost use Prim.Native.Nat.{_≤_};
+ghost use Prim.Native.Nat.{_*_, _≤_};
 ghost use lib.ListN.{length};
+ghost use Rattle.layout.specs.Sizes.{formula-bytes, most-formulas, most-rules};
 use row_parts::designs;
 use row_parts::lines;
 use row_parts::tables;
@@ -65,12 +66,21 @@ fn open_fork() {
         &rules,
     );
     judged(
-        b"both inputs of h0, (AX 0) or (AX 1)",
+        b"both inputs of h0, (AX 16) or (AX 17)",
         &d,
         &tables::FORK_OPEN,
         70,
         48,
     );
+}
+
+// The converter that lets lock and menu tick, against these formulas and rules.
+fn in_step(words: &[u8], formulas: &[u8], rules: &[u8])
+    requires { ⌜ (length (now formulas) ≤ formula-bytes * most-formulas) × (length (now rules) ≤ most-rules) ⌝ }
+{
+    let mut d = [0u8; 2048];
+    designs::design(&mut d, &tables::LOCK, &tables::MENU, formulas, rules);
+    judged(words, &d, &tables::IN_STEP, 70, 32);
 }
 
 // A design that 9 keeps from the search is judged.
@@ -107,6 +117,13 @@ pub fn rows() {
     mended(b"a converter of 0 bytes", &tables::F[..0], 70, 0);
     mended(b"F without its last record", &tables::F[..72], 70, 0);
     open_fork();
+    in_step(
+        b"lock and menu, 3 and AX 19",
+        &tables::LOCK_THEN_MENU,
+        &[0, 2],
+    );
+    in_step(b"lock and menu, 19", &tables::MENU_NOW, &[0]);
+    in_step(b"lock and menu, AX 3", &tables::LOCK_NEXT, &[1]);
     too_large_to_search();
     mended(b"F, 47 bytes of work", &tables::F, 47, 0);
 }

@@ -80,6 +80,15 @@ fn fork(words: &[u8], formulas: &[u8], rules: &[u8])
     searched(words, &d);
 }
 
+// Lock and menu with these formulas and rules.
+fn lock_and_menu(words: &[u8], formulas: &[u8], rules: &[u8])
+    requires { ⌜ (length (now formulas) ≤ formula-bytes * most-formulas) × (length (now rules) ≤ most-rules) ⌝ }
+{
+    let mut d = [0u8; 2048];
+    designs::design(&mut d, &tables::LOCK, &tables::MENU, formulas, rules);
+    searched(words, &d);
+}
+
 fn in_turn() {
     let rules = [6];
     let mut d = [0u8; 2048];
@@ -111,8 +120,19 @@ fn main() {
     );
     pair(b"search: H, A(true U 1)", &tables::UNTIL, &[2]);
     in_turn();
-    fork(b"search: (AX 0) or (AX 1)", &tables::EITHER, &[4]);
-    fork(b"search: (AX 0) and (AX 1)", &tables::BOTH, &[4]);
-    fork(b"search: AX 0 and AX 1, two rules", &tables::NEXTS, &[2, 3]);
+    fork(b"search: (AX 16) or (AX 17)", &tables::EITHER, &[4]);
+    fork(b"search: (AX 16) and (AX 17)", &tables::BOTH, &[4]);
+    fork(
+        b"search: AX 16 and AX 17, two rules",
+        &tables::NEXTS,
+        &[2, 3],
+    );
+    lock_and_menu(
+        b"search: lock and menu, 3 and AX 19",
+        &tables::LOCK_THEN_MENU,
+        &[0, 2],
+    );
+    lock_and_menu(b"search: lock and menu, 19", &tables::MENU_NOW, &[0]);
+    lock_and_menu(b"search: lock and menu, AX 3", &tables::LOCK_NEXT, &[1]);
     pair(b"search: H, 12 untils", &tables::UNTILS, &none);
 }

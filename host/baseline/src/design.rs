@@ -3,6 +3,11 @@
 use crate::converter::RECORD;
 use crate::{blank, check, demand, in_range, word};
 
+/// How many sides there are: the kernel, then the host.
+const SIDES: usize = 2;
+/// How many propositions there are: for each side the 16 bits of a label word.
+const PROPOSITIONS: usize = 16 * SIDES;
+
 /// An input state: no sent event.
 pub const INPUT: u8 = 0;
 /// An output-only state: a single transition, sent.
@@ -33,9 +38,9 @@ const EMPTY: State = State { label: 0, kind: INPUT, count: 0, events: [0; 8], ta
 /// A design.
 pub struct Design {
     /// How many states each side has.
-    pub states: [usize; 2],
+    pub states: [usize; SIDES],
     /// The states of each side.
-    pub sides: [[State; 16]; 2],
+    pub sides: [[State; 16]; SIDES],
     /// Kind, first and second operand of each formula.
     pub formulas: Vec<[u8; 3]>,
     /// The rules.
@@ -54,14 +59,14 @@ impl Design {
         let counts = blocks.map(|block| usize::from(block[1]));
         let counted = |count: usize| (1..=16).contains(&count);
         demand(counted(counts[0]) && counted(counts[1]) && counts[2] <= 64 && counts[3] <= 16, 4)?;
-        let mut sides = [[EMPTY; 16]; 2];
-        for side in 0..2 {
+        let mut sides = [[EMPTY; 16]; SIDES];
+        for side in 0..SIDES {
             for state in 0..counts[side] {
                 let record = &blocks[side][4 + 20 * state..24 + 20 * state];
                 sides[side][state] = read_state(record, counts[side]).ok_or(5)?;
             }
         }
-        for side in 0..2 {
+        for side in 0..SIDES {
             for (own, state) in sides[side][..counts[side]].iter_mut().enumerate() {
                 state.kind = kind(state, own).ok_or(6)?;
             }
@@ -78,7 +83,7 @@ impl Design {
         let tails = (0..4).all(|at| blank(&blocks[at][4 + used[at]..510]));
         let unused = |state: &[u8]| state[3] == 0 && blank(&state[4 + 2 * usize::from(state[2])..]);
         let states =
-            (0..2).all(|side| blocks[side][4..4 + used[side]].chunks_exact(20).all(unused));
+            (0..SIDES).all(|side| blocks[side][4..4 + used[side]].chunks_exact(20).all(unused));
         let absent = |record: &[u8]| {
             let operands = match record[0] {
                 1 | 2 => 0,
@@ -90,6 +95,14 @@ impl Design {
         let formula_records = blocks[2][4..4 + used[2]].chunks_exact(4).all(absent);
         demand(tails && states && formula_records, 8)?;
         Ok(Design { states: [counts[0], counts[1]], sides, formulas, rules })
+    }
+
+    /// The propositions that hold of a pair of states, proposition p as bit p: the host's label
+    /// word stands above the kernel's.
+    #[inline]
+    pub fn propositions(&self, pair: [usize; SIDES]) -> u32 {
+        let [kernel, host] = [0, 1].map(|side| u32::from(self.sides[side][pair[side]].label));
+        host << 16 | kernel
     }
 
     /// Which formulas are kept, as bits.
@@ -163,7 +176,7 @@ fn operands_right(number: usize, formula: &[u8; 3]) -> bool {
     let lower = |at: usize| usize::from(formula[at]) < number;
     match formula[0] {
         1 | 2 => true,
-        3 | 4 => formula[1] <= 15,
+        3 | 4 => usize::from(formula[1]) < PROPOSITIONS,
         5 | 6 | 8 => lower(1) && lower(2),
         7 | 9 => lower(1),
         _ => false,

@@ -120,12 +120,9 @@ fn keeps_rules(design: &Design, converter: &[u8]) -> bool {
     let records = converter.len() / RECORD;
     let words = records.div_ceil(64);
     let graph = Graph::new(converter);
-    let labels: Vec<u16> = converter
+    let labels: Vec<u32> = converter
         .chunks_exact(RECORD)
-        .map(|record| {
-            let label = |side: usize| design.sides[side][usize::from(record[side])].label;
-            label(0) | label(1)
-        })
+        .map(|record| design.propositions([record[0], record[1]].map(usize::from)))
         .collect();
     let mut truth: Vec<u64> = vec![0; words * design.formulas.len()];
     let mut waits: Vec<u8> = Vec::new();

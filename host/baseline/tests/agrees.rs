@@ -92,7 +92,7 @@ fn larger_searches() {
     let mut answers = [0; 18];
     let mut round = 0;
     while round < 150 {
-        let shape = Shape { states: 16, transitions: 4, propositions: 6, formulas: 24, rules: 5 };
+        let shape = Shape { states: 16, transitions: 4, propositions: 3, formulas: 24, rules: 5 };
         let made = ruled_design(&mut random, &shape);
         let size = positions(&made);
         if !(4_096..=65_536).contains(&size) {
@@ -119,7 +119,7 @@ fn rings() {
     let formulas = vec![
         Formula::True,
         Formula::Proposition(0),
-        Formula::Proposition(1),
+        Formula::Proposition(17),
         Formula::And(1, 2),
         Formula::Until(0, 3),
         Formula::Always(4),
@@ -131,6 +131,26 @@ fn rings() {
         let made = Design { sides, formulas: formulas.clone(), rules: vec![5, 7] };
         let size = positions(&made) as usize;
         assert_eq!(search_agrees(&made.to_bytes(), 36 * size, 16 * size), 0);
+    }
+}
+
+/// A proposition is a bit of the label words of one side; there are 16 for each side.
+#[test]
+fn propositions() {
+    for (number, labelled) in (0..=255).flat_map(|number| [(number, 0), (number, 1)]) {
+        let side = |own| {
+            let label = if own == labelled { 1 << (number % 16) } else { 0 };
+            vec![State { label, transitions: vec![Transition { event: 0, target: 0 }] }]
+        };
+        let formulas = vec![Formula::Proposition(number)];
+        let made = Design { sides: [side(0), side(1)], formulas, rules: vec![0] };
+        let expected = match number / 16 {
+            own if own == labelled => 0,
+            0 | 1 => 16,
+            _ => 7,
+        };
+        let size = positions(&made) as usize;
+        assert_eq!(search_agrees(&made.to_bytes(), 36 * size, 16 * size), expected);
     }
 }
 

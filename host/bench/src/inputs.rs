@@ -79,9 +79,9 @@ fn grid(states: usize, kept: usize, until: bool) -> Design {
     made
 }
 
-/// Formula 3: both rings are at their ends.
+/// Formula 3: both rings are at their ends. The host's label 2 is proposition 18.
 fn both_at_their_ends() -> Vec<Formula> {
-    vec![Formula::True, Formula::Proposition(0), Formula::Proposition(2), Formula::And(1, 2)]
+    vec![Formula::True, Formula::Proposition(0), Formula::Proposition(18), Formula::And(1, 2)]
 }
 
 /// The same with an until, where every state has eight transitions.
@@ -108,7 +108,7 @@ fn more_kept(formulas: &mut Vec<Formula>, rules: &mut Vec<u8>, kept: usize) {
         };
         formulas.extend([
             literal(number % 2 == 0, 1),
-            literal(number / 2 % 2 == 0, 3),
+            literal(number / 2 % 2 == 0, 19),
             Formula::Or(at, at + 1),
             Formula::Next(at + 2),
             Formula::Or(at, at + 3),
@@ -148,7 +148,7 @@ fn late(kept: usize) -> Design {
     formulas.extend([
         Formula::Until(0, 3),
         Formula::NotProposition(0),
-        Formula::NotProposition(2),
+        Formula::NotProposition(18),
         Formula::Or(5, 6),
         Formula::Always(7),
         Formula::Or(8, 4),
@@ -186,13 +186,14 @@ fn levels(states: usize, ring_states: usize, untils: usize) -> Design {
 /// all of their sides, or only labels and rules over rings that tick on.
 fn random(size: usize, over_rings: bool) -> Vec<Design> {
     let mut random = Random::new(size as u64);
-    let shape = Shape { states: 16, transitions: 4, propositions: 6, formulas: 24, rules: 5 };
+    let shape = Shape { states: 16, transitions: 4, propositions: 3, formulas: 24, rules: 5 };
     let mut made = Vec::new();
     while made.len() < 20 {
         let mut design = ruled_design(&mut random, &shape);
         if over_rings {
             design.sides = [16, 15].map(|states| {
-                let mut label = || if random.once_in(8) { 1 << random.below(6) } else { 0 };
+                let mut label =
+                    || if random.once_in(8) { 1 << random.below(shape.propositions) } else { 0 };
                 (0..states).map(|own| state(label(), &[(0, (own + 1) % states)])).collect()
             });
         }
@@ -228,9 +229,9 @@ pub fn judged(sizes: usize) -> Vec<(&'static str, Vec<Judged>)> {
     ]
 }
 
-/// 64 formulas of every kind, of which the last 16 are rules.
+/// 64 formulas of every kind over two labels of each side, of which the last 16 are rules.
 fn many_formulas() -> (Vec<Formula>, Vec<u8>) {
-    let shape = Shape { propositions: 4, ..Shape::FULL };
+    let shape = Shape { propositions: 2, ..Shape::FULL };
     (formulas(&mut Random::new(64), &shape, 64), (48..64).collect())
 }
 
@@ -266,7 +267,7 @@ pub fn converters(sizes: usize) -> Vec<Vec<u8>> {
 
 /// A converter over two rings of four states, with two or three random links in each record.
 fn mesh(records: usize, (formulas, rules): (Vec<Formula>, Vec<u8>)) -> Judged {
-    let sides = [ring(4, 0, 1), ring(4, 2, 3)];
+    let sides = [ring(4, 0, 1), ring(4, 0, 1)];
     let design = Design { sides, formulas, rules };
     let mut random = Random::new(records as u64);
     // Record r names the pair of the number r modulo 16.

@@ -5,10 +5,11 @@
 use std::collections::BTreeSet;
 
 use crate::bytes::{
-    converter_bytes, seal, write_blocks, Design, Formula, Link, Record, State, StateKind,
-    Transition, BLOCK_BYTES, BLOCK_RECORDS, HEADER_BYTES, PLACES, RECORD_BYTES,
+    converter_bytes, read_design, seal, write_blocks, Design, Formula, Link, Record, State,
+    StateKind, Transition, BLOCK_BYTES, BLOCK_RECORDS, FORMULA_BYTES, HEADER_BYTES, PLACES,
+    RECORD_BYTES, SIDES, SIDE_LABELS,
 };
-use crate::joined::{enabling, pairs, steps, Enabling, Pair, Step};
+use crate::joined::{enabling, pairs, proposition, steps, Enabling, Pair, Step};
 use crate::judge::model;
 use crate::tick::{tick, PlainSides, Runner};
 
@@ -72,7 +73,7 @@ pub struct Shape {
     pub states: usize,
     /// The most transitions of an input state.
     pub transitions: usize,
-    /// Labels use propositions below this.
+    /// Each side uses its labels below this, and formulas name those of either side.
     pub propositions: usize,
     /// The most formulas.
     pub formulas: usize,
@@ -150,10 +151,10 @@ fn state(random: &mut Random, shape: &Shape, own: usize, states: usize, reads: b
     State { label: label(random, shape), transitions }
 }
 
-/// A label word, mostly with few propositions.
+/// A label word, with each label half of the time. Both sides use the same bits, so
+/// that a test tells whether one side's label is taken for the other's.
 fn label(random: &mut Random, shape: &Shape) -> u16 {
-    let mut word = || (random.bits() >> 16) as u16 & (u16::MAX >> (16 - shape.propositions));
-    word() & word()
+    (random.bits() >> 16) as u16 & (u16::MAX >> (SIDE_LABELS - shape.propositions))
 }
 
 /// A transition that sends.
@@ -188,9 +189,14 @@ pub fn formulas(random: &mut Random, shape: &Shape, count: usize) -> Vec<Formula
     (0..count).map(|number| formula(random, shape, number)).collect()
 }
 
+/// A label of either side, as formulas name it.
+fn any_proposition(random: &mut Random, shape: &Shape) -> u8 {
+    proposition(random.below(SIDES), random.below(shape.propositions))
+}
+
 /// Formula `number`.
 fn formula(random: &mut Random, shape: &Shape, number: usize) -> Formula {
-    let proposition = random.below(shape.propositions) as u8;
+    let proposition = any_proposition(random, shape);
     // Mostly the formulas right before, so that rules grow deep.
     let mut operand = || {
         if random.once_in(2) {
@@ -246,8 +252,8 @@ fn tree(random: &mut Random, shape: &Shape, formulas: &mut Vec<Formula>, depth: 
     let mut below = |random: &mut Random| tree(random, shape, formulas, depth - 1);
     let made = match random.below(if depth == 0 { 5 } else { 16 }) {
         0 => Formula::True,
-        1..=2 => Formula::Proposition(random.below(shape.propositions) as u8),
-        3..=4 => Formula::NotProposition(random.below(shape.propositions) as u8),
+        1..=2 => Formula::Proposition(any_proposition(random, shape)),
+        3..=4 => Formula::NotProposition(any_proposition(random, shape)),
         5 => Formula::And(below(random), below(random)),
         6..=8 => Formula::Or(below(random), below(random)),
         9..=10 => Formula::Next(below(random)),
@@ -337,8 +343,7 @@ pub fn damage(random: &mut Random, bytes: &mut Vec<u8>) -> Damage {
         }
         _ => {
             for _ in 0..random.from_to(1, 2) {
-                let at = telling_byte(random, bytes);
-                change_byte(random, bytes, at);
+                change_telling_byte(random, bytes);
             }
             seal(bytes);
             Damage::Repaired
@@ -366,6 +371,45 @@ fn change_byte(random: &mut Random, bytes: &mut [u8], at: usize) {
             1 => old.wrapping_sub(1),
             2 => random.below(20) as u8,
             _ => random.byte(),
+        };
+    }
+}
+
+/// Changes a byte that tells something, in a design at times a proposition.
+fn change_telling_byte(random: &mut Random, bytes: &mut [u8]) {
+    let named = if random.once_in(6) { named_propositions(bytes) } else { vec![] };
+    if named.is_empty() {
+        let at = telling_byte(random, bytes);
+        change_byte(random, bytes, at);
+    } else {
+        let at = *random.pick(&named);
+        change_proposition(random, bytes, at);
+    }
+}
+
+/// The places of the bytes in which the formulas of a design name propositions; none
+/// where the bytes aren't a sound design.
+pub fn named_propositions(bytes: &[u8]) -> Vec<usize> {
+    let formulas = read_design(bytes).map_or(vec![], |design| design.formulas);
+    let names = |number: &usize| {
+        matches!(formulas[*number], Formula::Proposition(_) | Formula::NotProposition(_))
+    };
+    let place = |number: usize| 2 * BLOCK_BYTES + HEADER_BYTES + FORMULA_BYTES * number + 1;
+    (0..formulas.len()).filter(names).map(place).collect()
+}
+
+/// Gives a proposition another value: the same label of another side, the first or
+/// the last label of a side, or the largest byte. Two sides more than there are count as
+/// sides here.
+fn change_proposition(random: &mut Random, bytes: &mut [u8], at: usize) {
+    let old = bytes[at];
+    while bytes[at] == old {
+        let side = random.below(SIDES + 2);
+        bytes[at] = match random.below(4) {
+            0 => proposition(side, usize::from(old) % SIDE_LABELS),
+            1 => proposition(side, 0),
+            2 => proposition(side, SIDE_LABELS - 1),
+            _ => u8::MAX,
         };
     }
 }

@@ -2,7 +2,7 @@
 
 use crate::bytes::{read_converter_memory, read_design, Design, Record};
 use crate::ctl::Model;
-use crate::joined::{enabling, steps, Enabling, Step};
+use crate::joined::{enabling, labels, steps, Enabling, Step};
 use crate::refusal::{self, demand};
 
 /// Bytes of work that the judge demands for each record.
@@ -71,7 +71,7 @@ pub fn failing_rules(design: &Design, converter: &[Record]) -> Vec<usize> {
 /// The sides under a matched converter. Its records are the states: each names
 /// the one pair of states in which the sides then are.
 pub fn model(design: &Design, converter: &[Record]) -> Model {
-    let labels = converter.iter().map(|record| design.label(record.pair.map(usize::from)));
+    let labels = converter.iter().map(|record| labels(design, record.pair.map(usize::from)));
     let next = converter
         .iter()
         .map(|record| record.links.iter().map(|link| usize::from(link.next)).collect());

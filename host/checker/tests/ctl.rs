@@ -3,6 +3,7 @@
 use checker::bytes::Formula;
 use checker::ctl::{Model, States};
 use checker::generate::{formulas, Random, Shape};
+use checker::joined::{holds, Labels};
 
 /// Every path of `steps` steps from a state.
 fn paths(next: &[Vec<usize>], state: usize, steps: usize) -> Vec<Vec<usize>> {
@@ -22,16 +23,16 @@ fn paths(next: &[Vec<usize>], state: usize, steps: usize) -> Vec<Vec<usize>> {
 /// The states in which each formula holds, from all paths with as many steps
 /// as there are states. Such a path meets some state twice, so that a path
 /// which hasn't met b by its end can go on without it for ever.
-fn by_paths(labels: &[u16], next: &[Vec<usize>], formulas: &[Formula]) -> Vec<States> {
+fn by_paths(labels: &[Labels], next: &[Vec<usize>], formulas: &[Formula]) -> Vec<States> {
     let mut holding: Vec<States> = Vec::new();
     for &formula in formulas {
-        let holds = |state: usize| {
+        let comes_true = |state: usize| {
             let paths = paths(next, state, next.len());
             match formula {
                 Formula::True => true,
                 Formula::False => false,
-                Formula::Proposition(p) => labels[state] & (1 << p) != 0,
-                Formula::NotProposition(p) => labels[state] & (1 << p) == 0,
+                Formula::Proposition(p) => holds(labels[state], p),
+                Formula::NotProposition(p) => !holds(labels[state], p),
                 Formula::And(a, b) => holding[a].contains(&state) && holding[b].contains(&state),
                 Formula::Or(a, b) => holding[a].contains(&state) || holding[b].contains(&state),
                 Formula::Next(a) => paths.iter().all(|path| holding[a].contains(&path[1])),
@@ -46,7 +47,7 @@ fn by_paths(labels: &[u16], next: &[Vec<usize>], formulas: &[Formula]) -> Vec<St
                 }
             }
         };
-        let states = (0..next.len()).filter(|&state| holds(state)).collect();
+        let states = (0..next.len()).filter(|&state| comes_true(state)).collect();
         holding.push(states);
     }
     holding
@@ -58,7 +59,8 @@ fn random_models_against_paths() {
     let mut decided = [0, 0];
     for _ in 0..2_000 {
         let states = random.from_to(1, 5);
-        let labels: Vec<u16> = (0..states).map(|_| random.below(8) as u16).collect();
+        let labels: Vec<Labels> =
+            (0..states).map(|_| [0, 1].map(|_| random.below(8) as u16)).collect();
         let next: Vec<Vec<usize>> = (0..states)
             .map(|_| (0..random.from_to(1, 2)).map(|_| random.below(states)).collect())
             .collect();
@@ -80,26 +82,27 @@ fn random_models_against_paths() {
 }
 
 /// Four states in a row: 0 to 1, 1 to itself or 2, 2 to 3, 3 to itself.
-/// State 2 has label 1, state 3 has labels 0 and 1, the others none.
+/// In state 2 proposition 17 holds, in state 3 both 0 and 17, in the others none.
 fn row() -> Model {
-    Model::new(vec![0, 0, 2, 3], vec![vec![1], vec![1, 2], vec![3], vec![3]])
+    let labels = vec![[0, 0], [0, 0], [0, 2], [1, 2]];
+    Model::new(labels, vec![vec![1], vec![1, 2], vec![3], vec![3]])
 }
 
 #[test]
 fn a_row_of_states() {
     let formulas = [
         Formula::Proposition(0),
-        Formula::Proposition(1),
-        Formula::NotProposition(1),
+        Formula::Proposition(17),
+        Formula::NotProposition(17),
         Formula::Next(1),
         Formula::Always(1),
         Formula::True,
-        // Every path meets label 1: not where state 1 may stay.
+        // Every path meets 17: not where state 1 may stay.
         Formula::Until(5, 1),
-        // Label 1 up to label 0.
+        // 17 up to 0.
         Formula::Until(1, 0),
         Formula::False,
-        // Nothing before label 1, so at once.
+        // Nothing before 17, so at once.
         Formula::Until(8, 1),
         Formula::Always(3),
     ];
@@ -124,7 +127,7 @@ fn a_row_of_states() {
 
 #[test]
 fn until_holds_where_its_second_part_holds_at_once() {
-    let stuck = Model::new(vec![1], vec![vec![0]]);
+    let stuck = Model::new(vec![[1, 0]], vec![vec![0]]);
     let formulas =
         [Formula::False, Formula::Proposition(0), Formula::Until(0, 1), Formula::Until(1, 0)];
     let holding = stuck.holding(&formulas);
@@ -134,10 +137,10 @@ fn until_holds_where_its_second_part_holds_at_once() {
 
 #[test]
 fn a_long_row_of_states() {
-    // State n leads to n + 1, the last to itself; the last alone has label 0.
+    // State n leads to n + 1, the last to itself; 0 holds in the last alone.
     let states = 65_536;
-    let mut labels = vec![0; states];
-    labels[states - 1] = 1;
+    let mut labels = vec![[0, 0]; states];
+    labels[states - 1] = [1, 0];
     let next = (0..states).map(|state| vec![(state + 1).min(states - 1)]).collect();
     let formulas =
         [Formula::True, Formula::Proposition(0), Formula::Until(0, 1), Formula::Always(2)];

@@ -2,7 +2,7 @@
 
 mod samples;
 
-use std::collections::BTreeMap;
+use std::collections::{BTreeMap, BTreeSet};
 
 use checker::bytes::{
     converter_bytes, read_blocks, read_converter_memory, read_design, write_blocks, Formula,
@@ -10,7 +10,7 @@ use checker::bytes::{
 };
 use checker::generate::{
     any_converter, any_design, block_file, damage, damaged_converter, design, loose_converter,
-    matched_converter, nearly_matched_converter, Damage, Random, Shape,
+    matched_converter, named_propositions, nearly_matched_converter, Damage, Random, Shape,
 };
 use checker::judge::{failing_rules, matched};
 use samples::{judged_well, pattern, BEYOND};
@@ -22,6 +22,7 @@ fn sound_designs_are_read_as_written() {
     let mut random = Random::new(2);
     let mut mixes: BTreeMap<String, usize> = BTreeMap::new();
     let mut kinds: BTreeMap<String, usize> = BTreeMap::new();
+    let mut named: BTreeSet<u8> = BTreeSet::new();
     for round in 0..3_000 {
         let made = design(&mut random, &SHAPES[round % 3]);
         assert_eq!(read_design(&made.to_bytes()), Ok(made.clone()));
@@ -30,13 +31,17 @@ fn sound_designs_are_read_as_written() {
         for formula in &made.formulas {
             let name = format!("{formula:?}");
             *kinds.entry(name.split('(').next().unwrap().to_string()).or_default() += 1;
+            if let Formula::Proposition(p) | Formula::NotProposition(p) = formula {
+                named.insert(*p);
+            }
         }
     }
-    // Every mix of state kinds and every kind of formula comes.
+    // Every mix of state kinds, every kind of formula and every label of both sides comes.
     assert_eq!(mixes.len(), 9, "{mixes:?}");
     assert!(mixes.values().all(|&times| times > 100), "{mixes:?}");
     assert_eq!(kinds.len(), 9, "{kinds:?}");
     assert!(kinds.values().all(|&times| times > 100), "{kinds:?}");
+    assert_eq!(named, (0..32).collect());
 }
 
 #[test]
@@ -59,6 +64,29 @@ fn damaged_designs() {
         *answers.entry(read.err().unwrap_or(0)).or_default() += 1;
     }
     assert!((0..=8).all(|answer| answers.get(&answer).is_some_and(|&n| n > 100)), "{answers:?}");
+}
+
+#[test]
+fn damaged_propositions() {
+    let mut random = Random::new(15);
+    let mut named: BTreeMap<u8, usize> = BTreeMap::new();
+    let mut moved = 0;
+    for _ in 0..10_000 {
+        let sound = any_design(&mut random).to_bytes();
+        let mut bytes = sound.clone();
+        if damage(&mut random, &mut bytes) != Damage::Repaired {
+            continue;
+        }
+        for at in named_propositions(&sound).into_iter().filter(|&at| bytes[at] != sound[at]) {
+            *named.entry(bytes[at]).or_default() += 1;
+            moved += usize::from(bytes[at] == sound[at] ^ 16);
+        }
+    }
+    // The first and the last label of each side, and of sides that there aren't; the same
+    // label of the other side.
+    let come = [0, 15, 16, 31, 32, 47, 48, 63, 255];
+    assert!(come.iter().all(|p| named.get(p).is_some_and(|&n| n > 20)), "{named:?}");
+    assert!(moved > 50, "{moved}");
 }
 
 #[test]

@@ -98,8 +98,10 @@ fn design_faults() -> Vec<Fault> {
         faults.push(fault(7, &[(formula_at(0), kind)]));
     }
     // Formula 0 is a literal, 2 an or, 6 a next, 8 an always.
-    faults.push(fault(7, &[(formula_at(0) + 1, 16)]));
-    faults.push(fault(7, &[(formula_at(0), 3), (formula_at(0) + 1, 255)]));
+    for over in [32, 47, 48, 255] {
+        faults.push(fault(7, &[(formula_at(0) + 1, over)]));
+        faults.push(fault(7, &[(formula_at(0), 3), (formula_at(0) + 1, over)]));
+    }
     faults.push(fault(7, &[(formula_at(2) + 1, 2)]));
     faults.push(fault(7, &[(formula_at(2) + 2, 2)]));
     faults.push(fault(7, &[(formula_at(2) + 2, 35)]));
@@ -198,7 +200,7 @@ fn limits_of_a_design() {
     let mut design = handshake(vec![Formula::True; 64], vec![63; 16]);
     design.sides = [side.clone(), side];
     design.formulas[63] = Formula::And(62, 0);
-    design.formulas[62] = Formula::Proposition(15);
+    design.formulas[62] = Formula::Proposition(31);
     assert_eq!(read_design(&design.to_bytes()), Ok(design.clone()));
     // No formulas and no rules are taken too, and rules without formulas are not.
     design.formulas.clear();

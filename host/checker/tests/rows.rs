@@ -6,8 +6,9 @@ use checker::bytes::{check, converter_bytes, positions, read_design, Design, For
 use checker::judge::failing_rules;
 use checker::tick::Runner;
 use samples::{
-    figure_five, handshake, judged_well, next_zero_next_one, record, rings, ruled_handshake,
-    searched, state, ticking_in_turn, two_inputs,
+    figure_five, handshake, judged_well, lock_and_menu, lock_and_menu_converter, mistaken_labels,
+    next_sixteen_next_seventeen, record, rings, ruled_handshake, searched, state, ticking_in_turn,
+    two_inputs,
 };
 
 #[test]
@@ -91,7 +92,7 @@ fn enabling(inputs: &[([i8; 2], u16)]) -> Vec<Record> {
 
 #[test]
 fn one_of_two_inputs() {
-    let mut formulas = next_zero_next_one();
+    let mut formulas = next_sixteen_next_seventeen();
     formulas.push(Formula::Or(2, 3));
     let design = two_inputs(formulas, vec![4]);
     assert_eq!(positions(&design), 24);
@@ -106,12 +107,34 @@ fn one_of_two_inputs() {
 
 #[test]
 fn both_of_two_inputs() {
-    let as_two_rules = two_inputs(next_zero_next_one(), vec![2, 3]);
+    let as_two_rules = two_inputs(next_sixteen_next_seventeen(), vec![2, 3]);
     assert_eq!(searched(&as_two_rules), Err(16));
 
-    let mut formulas = next_zero_next_one();
+    let mut formulas = next_sixteen_next_seventeen();
     formulas.push(Formula::And(2, 3));
     assert_eq!(searched(&two_inputs(formulas, vec![4])), Err(16));
+}
+
+#[test]
+fn lock_and_menu_are_told_apart() {
+    assert_eq!(lock_and_menu().kept().len(), 3);
+    assert_eq!(positions(&lock_and_menu()), 32);
+    assert!(searched(&lock_and_menu()).is_ok());
+    let converter = converter_bytes(&lock_and_menu_converter());
+    assert_eq!(judged_well(&lock_and_menu(), &converter), Ok(()));
+    for mistaken in mistaken_labels() {
+        assert_eq!(searched(&mistaken), Err(16));
+        assert_eq!(judged_well(&mistaken, &converter), Err(15));
+    }
+}
+
+#[test]
+fn propositions_at_the_edge() {
+    for literal in [Formula::Proposition, Formula::NotProposition] {
+        let naming = |proposition| handshake(vec![literal(proposition)], vec![0]);
+        assert_eq!(read_design(&naming(31).to_bytes()), Ok(naming(31)));
+        assert_eq!(read_design(&naming(32).to_bytes()), Err(7));
+    }
 }
 
 #[test]

@@ -1,6 +1,7 @@
 //! Tables with named states, signals and propositions.
 
 use checker::bytes::{self, Design};
+use checker::joined::proposition;
 
 use crate::rule::{Records, Rule};
 
@@ -66,7 +67,8 @@ pub struct Example {
     pub sides: [Side; 2],
     /// The signals, numbered from 1.
     pub signals: Vec<&'static str>,
-    /// The propositions, numbered from 0.
+    /// The propositions, each held by states of one side alone: its place here is its bit in their
+    /// label words.
     pub propositions: Vec<&'static str>,
     /// The rules, each in words and as a formula.
     pub rules: Vec<(&'static str, Rule)>,
@@ -89,10 +91,28 @@ impl Example {
 
     /// The design, with every name replaced by its number.
     pub fn design(&self) -> Design {
-        let mut records = Records::new(&self.propositions);
+        let propositions = self.numbered_propositions();
+        let mut records = Records::new(&propositions);
         let rules = self.rules.iter().map(|(_, rule)| records.put(rule) as u8).collect();
         let sides = [0, 1].map(|side| self.side(side));
         Design { sides, formulas: records.formulas, rules }
+    }
+
+    /// The propositions with their numbers: the kernel's count from 0, the host's from 16.
+    pub fn numbered_propositions(&self) -> Vec<(u8, &'static str)> {
+        let bits = self.propositions.iter().enumerate();
+        bits.map(|(bit, &name)| (proposition(self.holder(name), bit), name)).collect()
+    }
+
+    /// The one side whose states hold a proposition.
+    fn holder(&self, name: &str) -> usize {
+        let holds =
+            |side: &usize| self.sides[*side].states.iter().any(|state| state.holds.contains(&name));
+        match (0..self.sides.len()).filter(holds).collect::<Vec<usize>>()[..] {
+            [side] => side,
+            [] => panic!("no state holds {name}"),
+            _ => panic!("states of several sides hold {name}"),
+        }
     }
 
     fn side(&self, side: usize) -> Vec<bytes::State> {

@@ -37,8 +37,8 @@ fn write_page(
     for (side, word) in example.sides.iter().zip(["Kernel", "Host"]) {
         write_side(out, side, word)?;
     }
-    writeln!(out, "Signals: {}.  ", numbered(&example.signals, 1, ""))?;
-    writeln!(out, "Propositions: {}.\n", numbered(&example.propositions, 0, "p"))?;
+    writeln!(out, "Signals: {}.  ", numbered((1..).zip(example.signals.iter().copied()), ""))?;
+    writeln!(out, "Propositions: {}.\n", numbered(example.numbered_propositions(), "p"))?;
     writeln!(out, "## Rules\n")?;
     for (number, (words, rule)) in (1..).zip(&example.rules) {
         writeln!(out, "{number}. {words}\n\n       {rule}\n")?;
@@ -116,9 +116,9 @@ fn does(event: Event) -> String {
     }
 }
 
-fn numbered(names: &[&str], first: usize, before: &str) -> String {
+fn numbered<'a>(names: impl IntoIterator<Item = (u8, &'a str)>, before: &str) -> String {
     let each: Vec<String> =
-        (first..).zip(names).map(|(number, name)| format!("{before}{number} {name}")).collect();
+        names.into_iter().map(|(number, name)| format!("{before}{number} {name}")).collect();
     each.join(", ")
 }
 

@@ -126,14 +126,14 @@ impl fmt::Display for Rule {
 
 /// The formula records of some rules. Equal parts share a record.
 pub struct Records<'a> {
-    propositions: &'a [&'static str],
+    propositions: &'a [(u8, &'static str)],
     /// The records so far.
     pub formulas: Vec<Formula>,
 }
 
 impl<'a> Records<'a> {
-    /// No records, over these propositions.
-    pub fn new(propositions: &'a [&'static str]) -> Records<'a> {
+    /// No records, over these propositions, each with its number.
+    pub fn new(propositions: &'a [(u8, &'static str)]) -> Records<'a> {
         Records { propositions, formulas: Vec::new() }
     }
 
@@ -171,8 +171,8 @@ impl<'a> Records<'a> {
     }
 
     fn number(&self, name: &str) -> u8 {
-        let at = self.propositions.iter().position(|known| *known == name);
-        at.unwrap_or_else(|| panic!("no proposition {name}")) as u8
+        let known = self.propositions.iter().find(|(_, known)| *known == name);
+        known.unwrap_or_else(|| panic!("no proposition {name}")).0
     }
 
     fn record(&mut self, formula: Formula) -> usize {

@@ -118,6 +118,32 @@ fn positions_by_hand() {
 }
 
 #[test]
+fn propositions_by_hand() {
+    let handshake = &examples()[0];
+    let expected = [(0, "idle1"), (1, "rout"), (18, "idle2"), (19, "rin")];
+    assert_eq!(handshake.numbered_propositions(), expected);
+    let arbiter = &examples()[8];
+    let expected = [(0, "granted"), (17, "waits"), (18, "access")];
+    assert_eq!(arbiter.numbered_propositions(), expected);
+}
+
+#[test]
+#[should_panic(expected = "states of several sides hold rout")]
+fn a_proposition_of_both_sides() {
+    let mut handshake = examples().remove(0);
+    handshake.sides[1].states[0].holds.push("rout");
+    handshake.design();
+}
+
+#[test]
+#[should_panic(expected = "no state holds rout")]
+fn a_proposition_of_no_side() {
+    let mut handshake = examples().remove(0);
+    handshake.sides[0].states[1].holds.clear();
+    handshake.design();
+}
+
+#[test]
 fn one_rule_as_typed() {
     let typed: Vec<String> = examples()[0].rules.iter().map(|(_, rule)| rule.to_string()).collect();
     assert_eq!(typed[0], "AG (idle1 & idle2 -> AX (rout | !rin))");

@@ -37,7 +37,7 @@ refusals! {
     TRANSITIONS = 5, "a state has no transition or over 8, an event outside -63 to 63 or twice, or \
         a target that isn't a state";
     STATE_KIND = 6, "a state is neither input, output-only nor delayed";
-    FORMULA = 7, "a formula has an unknown kind, an operand not lower or a proposition over 15, or \
+    FORMULA = 7, "a formula has an unknown kind, an operand not lower or a proposition over 31, or \
         a rule names no formula";
     UNUSED_BYTE = 8, "an unused byte outside converter records isn't zero";
     POSITIONS = 9, "a design has over 65,536 positions";

@@ -9,7 +9,9 @@ use checker::bytes::{positions, read_converter_memory, Design, Formula, Record};
 use checker::generate::{ruled_design, Random, Shape};
 use checker::judge::failing_rules;
 use gorzhani::{CELL, RECORD};
-use samples::{figure_five, next_zero_next_one, ruled_handshake, ticking_in_turn, two_inputs};
+use samples::{
+    figure_five, next_sixteen_next_seventeen, ruled_handshake, ticking_in_turn, two_inputs,
+};
 
 /// The records that the library finds.
 fn found(made: &Design) -> Option<Vec<Record>> {
@@ -73,7 +75,7 @@ fn the_rows_get_the_fewest_records() {
     assert_eq!(count(&ruled_handshake(false)), figure_five().len());
     // One for each pair that is reached: two in turn; h0, and one of h1 and h2.
     assert_eq!(count(&ticking_in_turn()), 2);
-    let mut formulas = next_zero_next_one();
+    let mut formulas = next_sixteen_next_seventeen();
     formulas.push(Formula::Or(2, 3));
     assert_eq!(count(&two_inputs(formulas, vec![4])), 2);
 }

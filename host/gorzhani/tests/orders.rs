@@ -11,16 +11,15 @@ use checker::generate::{ruled_design, Random, Shape};
 use common::{found, judge_agrees, Answers};
 use gorzhani::{CELL, RECORD};
 
-/// A side of two states, the second with a proposition, each of which `each`
-/// events lead to.
-fn side(proposition: u8, each: u8) -> Vec<State> {
+/// A side of two states, the second with label 0, each of which `each` events lead to.
+fn side(each: u8) -> Vec<State> {
     let transition = |event: u8| Transition { event: event as i8, target: event / each };
     let state = |label| State { label, transitions: (0..2 * each).map(transition).collect() };
-    vec![state(0), state(1 << proposition)]
+    vec![state(0), state(1)]
 }
 
 /// The converter that goes from each place to those that `next` lists, at most
-/// four, and in whose places the propositions 0 and 1 hold as `holding` says;
+/// four, and in whose places the propositions 0 and 16 hold as `holding` says;
 /// it is matched to sides of two states. The places are records in any order,
 /// but that the first is record 0.
 fn converter(random: &mut Random, next: &[Vec<usize>], holding: &[[u8; 2]]) -> Vec<Record> {
@@ -60,7 +59,7 @@ fn graph(random: &mut Random, places: usize) -> Vec<Vec<usize>> {
     (0..places).map(next).collect()
 }
 
-/// The propositions 0 and 1 in so many places, mostly in few.
+/// The propositions 0 and 16 in so many places, mostly in few.
 fn holding(random: &mut Random, places: usize) -> Vec<[u8; 2]> {
     let rare = [random.from_to(2, 2 * places), random.from_to(2, 2 * places)];
     let most = random.once_in(3);
@@ -71,14 +70,14 @@ fn holding(random: &mut Random, places: usize) -> Vec<[u8; 2]> {
     held
 }
 
-/// Formulas over propositions 0 and 1 of which most are untils and always.
+/// Formulas over propositions 0 and 16 of which most are untils and always.
 fn waiting(random: &mut Random) -> Vec<Formula> {
     let mut formulas = vec![
         Formula::True,
         Formula::Proposition(0),
-        Formula::Proposition(1),
+        Formula::Proposition(16),
         Formula::NotProposition(0),
-        Formula::NotProposition(1),
+        Formula::NotProposition(16),
     ];
     for at in formulas.len()..24 {
         let (a, b) = (random.below(at), random.below(at));
@@ -115,7 +114,7 @@ fn graphs_in_no_order() {
     for round in 0..1_500 {
         let places = random.from_to(2, if round % 10 == 0 { 1_000 } else { 100 });
         let (next, held) = (graph(&mut random, places), holding(&mut random, places));
-        let sides = [side(0, 4), side(1, 1)];
+        let sides = [side(4), side(1)];
         let design = Design { sides, formulas: waiting(&mut random), rules: vec![] };
         let made = converter(&mut random, &next, &held);
         each_rule(&design, &made, (5..24).step_by(3), &mut answers);
@@ -139,7 +138,7 @@ fn long_chains_in_no_order() {
         Formula::Until(3, 5),
         Formula::Always(0),
     ];
-    let design = Design { sides: [side(0, 4), side(1, 1)], formulas, rules: vec![] };
+    let design = Design { sides: [side(4), side(1)], formulas, rules: vec![] };
     for places in [2, 3, 4, 5, 100, 1_000, 20_000] {
         let next: Vec<Vec<usize>> = (0..places).map(|at| vec![(at + 1).min(places - 1)]).collect();
         let mut held = vec![[0, 0]; places];

@@ -10,13 +10,14 @@ use checker::generate::{any_design, damage, ruled_design, Random, Shape};
 use common::{mixed_design, positions_agrees, Answers};
 use gorzhani::{Refused, CELL, DESIGN, RECORD};
 use samples::{
-    handshake, next_zero_next_one, rings, ruled_handshake, state, ticking_in_turn, two_inputs,
+    handshake, lock_and_menu, next_sixteen_next_seventeen, rings, ruled_handshake, state,
+    ticking_in_turn, two_inputs,
 };
 
 /// The rows of the specification, with the count that stands there.
 #[test]
 fn rows() {
-    let mut either = next_zero_next_one();
+    let mut either = next_sixteen_next_seventeen();
     either.push(Formula::Or(2, 3));
     let waiting = vec![Formula::True, Formula::Proposition(1), Formula::Until(0, 1)];
     let rows = [
@@ -25,6 +26,7 @@ fn rows() {
         (handshake(waiting, vec![2]), Ok(8)),
         (ticking_in_turn(), Ok(32)),
         (two_inputs(either, vec![4]), Ok(24)),
+        (lock_and_menu(), Ok(32)),
         (rings(Formula::Always(14)), Ok(65_536)),
         (rings(Formula::Until(14, 4)), Err(Refused::POSITIONS)),
     ];
@@ -88,7 +90,7 @@ fn damaged() {
 /// second checker tells.
 #[test]
 fn every_damage_of_one_byte() {
-    let mut random = Random::new(703);
+    let mut random = Random::new(705);
     let mut answers = Answers::default();
     for shape in [Shape::TINY, Shape::SMALL, Shape::FULL] {
         let sound = ruled_design(&mut random, &shape).to_bytes();

@@ -26,7 +26,7 @@ fn each_number_says_what_is_wrong() {
         "a block's record count",
         "a target that isn't a state",
         "neither input, output-only nor delayed",
-        "an operand not lower",
+        "a proposition over 31",
         "an unused byte outside converter records",
         "over 65,536 positions",
         "a converter in memory is empty",

@@ -9,8 +9,8 @@ use checker::bytes::{converter_bytes, positions, Design, Formula, Record};
 use common::{judge_agrees, search_agrees, tick_agrees};
 use gorzhani::{Runner, CELL, RECORD};
 use samples::{
-    figure_five, handshake, next_zero_next_one, record, ruled_handshake, state, ticking_in_turn,
-    two_inputs,
+    figure_five, handshake, lock_and_menu, lock_and_menu_converter, mistaken_labels,
+    next_sixteen_next_seventeen, record, ruled_handshake, state, ticking_in_turn, two_inputs,
 };
 
 /// The answer to a search with the lengths that are demanded; 0 is a converter.
@@ -78,7 +78,7 @@ fn two_states_ticking_in_turn() {
 
 #[test]
 fn two_inputs_of_which_one_serves() {
-    let mut formulas = next_zero_next_one();
+    let mut formulas = next_sixteen_next_seventeen();
     formulas.push(Formula::Or(2, 3));
     let either = two_inputs(formulas, vec![4]);
     assert_eq!((positions(&either), searched(&either)), (24, 0));
@@ -88,7 +88,37 @@ fn two_inputs_of_which_one_serves() {
         record([0, 2], &[([0, 0], 2)]),
     ];
     assert_eq!(judged(&either, &both), 15);
-    assert_eq!(searched(&two_inputs(next_zero_next_one(), vec![2, 3])), 16);
+    assert_eq!(searched(&two_inputs(next_sixteen_next_seventeen(), vec![2, 3])), 16);
+}
+
+/// The kernel's bit 3 is proposition 3 and the host's bit 3 is proposition 19.
+#[test]
+fn lock_and_menu_are_told_apart() {
+    let kept = lock_and_menu();
+    let bytes = kept.to_bytes();
+    // The label words of k0, k1, m0 and m1, and the records of 3, 19 and AX 19.
+    let words = [4, 24, 516, 536].map(|at| [bytes[at], bytes[at + 1]]);
+    assert_eq!(words, [[8, 0], [0, 0], [0, 0], [8, 0]]);
+    assert_eq!(bytes[1_028..1_040], [3, 3, 0, 0, 3, 19, 0, 0, 7, 1, 0, 0]);
+    assert_eq!((kept.kept().len(), positions(&kept)), (3, 32));
+    assert_eq!(searched(&kept), 0);
+    assert_eq!(judged(&kept, &lock_and_menu_converter()), 0);
+    for mistaken in mistaken_labels() {
+        assert_eq!(searched(&mistaken), 16);
+        assert_eq!(judged(&mistaken, &lock_and_menu_converter()), 15);
+    }
+}
+
+#[test]
+fn propositions_at_the_edge() {
+    let literals: [fn(u8) -> Formula; 2] = [Formula::Proposition, Formula::NotProposition];
+    // No state of H has the host's bit 15.
+    for (literal, answer) in literals.into_iter().zip([16, 0]) {
+        let naming = |proposition| handshake(vec![literal(proposition)], vec![0]);
+        assert_eq!(searched(&naming(31)), answer);
+        assert_eq!(searched(&naming(32)), 7);
+        assert_eq!(judged(&naming(32), &figure_five()), 7);
+    }
 }
 
 #[test]

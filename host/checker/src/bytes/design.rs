@@ -4,7 +4,7 @@ use std::collections::BTreeSet;
 
 use super::{
     headed, in_range, seal, sealed, word, BLOCK_BYTES, CHECKED_BYTES, DESIGN_BYTES, FORMULA_BYTES,
-    HEADER_BYTES, MOST_STATES, PLACES, STATE_BYTES,
+    HEADER_BYTES, MOST_STATES, PLACES, PROPOSITIONS, SIDES, STATE_BYTES,
 };
 use crate::refusal::{self, demand};
 
@@ -20,7 +20,7 @@ pub struct Transition {
 /// One state of a side.
 #[derive(Clone, Debug, PartialEq, Eq)]
 pub struct State {
-    /// Bit k set means that proposition k holds.
+    /// Bit k set means that label k of this side holds.
     pub label: u16,
     /// The used transition places, in order.
     pub transitions: Vec<Transition>,
@@ -83,7 +83,7 @@ pub enum Formula {
 #[derive(Clone, Debug, PartialEq, Eq)]
 pub struct Design {
     /// The kernel's states, then the host's.
-    pub sides: [Vec<State>; 2],
+    pub sides: [Vec<State>; SIDES],
     /// The formulas by number.
     pub formulas: Vec<Formula>,
     /// The rules, each a formula number.
@@ -110,11 +110,6 @@ impl Design {
         (0..self.formulas.len())
             .filter(|&number| matches!(self.formulas[number], Formula::Until(..)))
             .collect()
-    }
-
-    /// The propositions of a pair of states, as a label word.
-    pub fn label(&self, pair: [usize; 2]) -> u16 {
-        self.sides[0][pair[0]].label | self.sides[1][pair[1]].label
     }
 
     /// The design as four sealed blocks.
@@ -205,7 +200,8 @@ fn read_formulas(block: &[u8]) -> Option<Vec<Formula>> {
 /// Formula `number`, unless its kind is unknown or an operand is wrong.
 /// Absent operands aren't looked at here: they are unused bytes.
 fn read_formula(number: usize, record: &[u8]) -> Option<Formula> {
-    let proposition = |at: usize| (record[at] <= 15).then_some(record[at]);
+    let proposition =
+        |at: usize| Some(record[at]).filter(|&named| usize::from(named) < PROPOSITIONS);
     let lower = |at: usize| Some(usize::from(record[at])).filter(|&operand| operand < number);
     Some(match record[0] {
         1 => Formula::True,

@@ -27,8 +27,14 @@ pub const FORMULA_BYTES: usize = 4;
 pub const RECORD_BYTES: usize = 36;
 /// Transition places in a state and in a converter record.
 pub const PLACES: usize = 8;
+/// The sides of a design: the kernel, then the host.
+pub const SIDES: usize = 2;
 /// The most states that a side has.
 pub const MOST_STATES: usize = 16;
+/// The labels of a side: the bits of its label words.
+pub const SIDE_LABELS: usize = 16;
+/// The propositions that formulas may name: every label of every side.
+pub const PROPOSITIONS: usize = SIDES * SIDE_LABELS;
 /// The most records that a converter in memory or in a file has.
 pub const MOST_RECORDS: usize = 65_536;
 /// Records in every block of a converter file but perhaps the last.

@@ -8,15 +8,20 @@ use checker::bytes::{
     positions, read_converter_memory, Design, Formula, Link, Record, State, Transition,
 };
 
-/// A state from the propositions of its label and its transitions.
-pub fn state(propositions: &[u8], transitions: &[(i8, u8)]) -> State {
+/// A state from the bits of its label word and its transitions.
+pub fn state(bits: &[u8], transitions: &[(i8, u8)]) -> State {
     State {
-        label: propositions.iter().map(|&p| 1 << p).sum(),
+        label: bits.iter().map(|&bit| 1 << bit).sum(),
         transitions: transitions
             .iter()
             .map(|&(event, target)| Transition { event, target })
             .collect(),
     }
+}
+
+/// One ticking state on each side, with these label words.
+pub fn ticking(labels: [u16; 2]) -> [Vec<State>; 2] {
+    labels.map(|label| vec![State { label, ..state(&[], &[(0, 0)]) }])
 }
 
 /// A converter record from its pair and its transitions.
@@ -64,10 +69,10 @@ fn rule(formulas: &mut Vec<Formula>, a: u8, b: u8, c: (u8, bool), d: (u8, bool))
 pub fn four_rules(as_printed: bool) -> (Vec<Formula>, Vec<u8>) {
     let mut formulas = Vec::new();
     let rules = vec![
-        rule(&mut formulas, 0, 2, (1, true), (3, false)),
-        rule(&mut formulas, 3, 1, (0, true), (2, false)),
-        rule(&mut formulas, 1, 2, (3, true), (0, false)),
-        rule(&mut formulas, 0, 3, (1, false), (2, !as_printed)),
+        rule(&mut formulas, 0, 18, (1, true), (19, false)),
+        rule(&mut formulas, 19, 1, (0, true), (18, false)),
+        rule(&mut formulas, 1, 18, (19, true), (0, false)),
+        rule(&mut formulas, 0, 19, (1, false), (18, !as_printed)),
     ];
     (formulas, rules)
 }
@@ -99,13 +104,43 @@ pub fn two_inputs(formulas: Vec<Formula>, rules: Vec<u8>) -> Design {
     Design { sides: [vec![state(&[], &[(0, 0)])], host], formulas, rules }
 }
 
-/// AX 0, then AX 1.
-pub fn next_zero_next_one() -> Vec<Formula> {
-    vec![Formula::Proposition(0), Formula::Proposition(1), Formula::Next(0), Formula::Next(1)]
+/// AX 16, then AX 17.
+pub fn next_sixteen_next_seventeen() -> Vec<Formula> {
+    vec![Formula::Proposition(16), Formula::Proposition(17), Formula::Next(0), Formula::Next(1)]
 }
 
-/// One input state that reads 1 to 3 and goes to the state of that number;
-/// state n has label n - 1, and each comes back to state 0 by a tick.
+/// The sides of lock and menu, which only tick, from each state to the other: k0 and
+/// m1 have bit 3.
+fn lock_and_menu_sides() -> [Vec<State>; 2] {
+    [
+        vec![state(&[3], &[(0, 1)]), state(&[], &[(0, 0)])],
+        vec![state(&[], &[(0, 1)]), state(&[3], &[(0, 0)])],
+    ]
+}
+
+/// Lock and menu: 3 and AX 19.
+pub fn lock_and_menu() -> Design {
+    let formulas = vec![Formula::Proposition(3), Formula::Proposition(19), Formula::Next(1)];
+    Design { sides: lock_and_menu_sides(), formulas, rules: vec![0, 2] }
+}
+
+/// The same with a rule that takes the label of one side for the other's: 19, or AX 3.
+pub fn mistaken_labels() -> [Design; 2] {
+    let host_first = vec![Formula::Proposition(19)];
+    let kernel_next = vec![Formula::Proposition(3), Formula::Next(0)];
+    [
+        Design { sides: lock_and_menu_sides(), formulas: host_first, rules: vec![0] },
+        Design { sides: lock_and_menu_sides(), formulas: kernel_next, rules: vec![1] },
+    ]
+}
+
+/// The converter T: both sides tick, from (k0, m0) to (k1, m1) and back.
+pub fn lock_and_menu_converter() -> Vec<Record> {
+    vec![record([0, 0], &[([0, 0], 1)]), record([1, 1], &[([0, 0], 0)])]
+}
+
+/// One input state that reads 1 to 3 and goes to the state of that number; in state
+/// n proposition 15 + n holds, and each comes back to state 0 by a tick.
 pub fn hub(formulas: Vec<Formula>, rules: Vec<u8>) -> Design {
     let hub = vec![
         state(&[], &[(1, 1), (2, 2), (3, 3)]),
@@ -117,20 +152,20 @@ pub fn hub(formulas: Vec<Formula>, rules: Vec<u8>) -> Design {
 }
 
 /// Two rings of sixteen states, each of which ticks on or reads 1 and stays.
-/// State 15 has label 0 on side 1 and label 1 on side 2. Eight formulas are
-/// kept: 2, 3, 4, 5, 6, 8, 11 and 15.
+/// State 15 has bit 0 on side 1 and bit 1 on side 2: propositions 0 and 17. Eight
+/// formulas are kept: 2, 3, 4, 5, 6, 8, 11 and 15.
 pub fn rings(last: Formula) -> Design {
-    let ring = |proposition: u8| {
-        let label = |own: u8| if own == 15 { vec![proposition] } else { vec![] };
-        (0..16).map(|own: u8| state(&label(own), &[(0, (own + 1) % 16), (1, own)])).collect()
+    let ring = |bit: u8| {
+        let bits = |own: u8| if own == 15 { vec![bit] } else { vec![] };
+        (0..16).map(|own: u8| state(&bits(own), &[(0, (own + 1) % 16), (1, own)])).collect()
     };
     let formulas = vec![
         Formula::True,
         Formula::Proposition(0),
         Formula::Until(0, 1),
         Formula::Always(2),
-        Formula::Proposition(1),
-        Formula::NotProposition(1),
+        Formula::Proposition(17),
+        Formula::NotProposition(17),
         Formula::NotProposition(0),
         Formula::Or(6, 5),
         Formula::Always(7),

@@ -24,6 +24,9 @@ returns-3 c =
     let q = a .self in
     sym (right-constant (q .kind) (q .a) (q .b) (a .k) (omega arith) (omega arith))
 
+cast-result : tie.Need-cast-result
+cast-result c = search needs
+
 returns-4 : tie.Need-returns-4
 returns-4 c =
     let a = c .before .before .before .before .before .args in
@@ -42,8 +45,8 @@ returns-5 c =
 has-two-requires : tie.Need-has-two-requires
 has-two-requires c κs = search needs
 
-cast-result : tie.Need-cast-result
-cast-result c = search needs
+cast-result-2 : tie.Need-cast-result-2
+cast-result-2 c = search needs
 
 returns-6 : tie.Need-returns-6
 returns-6 c =
@@ -64,10 +67,11 @@ is-right-spec =
     returns
     returns-2
     returns-3
+    cast-result
     returns-4
     cast-if5
     returns-5
     has-two-requires
-    cast-result
+    cast-result-2
     returns-6
     returns-7)
