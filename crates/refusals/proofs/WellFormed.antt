@@ -29,7 +29,7 @@ use Rattle.layout.specs.Designs.{side-in, design}
 use Rattle.layout.specs.Tests.{side-right, kinds-right, forms-right, rules-right}
 use Rattle.refusals.specs.Refusals.{check-right, header-right, count-right, unused-right, kinds-known, formulas-right, design-refusal}
 use Rattle.layout.proofs.Tables.{length-table}
-use Rattle.layout.proofs.DesignBytes.{sides-two}
+use Rattle.layout.proofs.DesignBytes.{sides-length}
 use Rattle.refusals.proofs.StateTests.{side-states-formed, side-kinds-formed}
 use Rattle.refusals.proofs.FormulaTests.{formulas-formed, rules-formed}
 use Rattle.refusals.proofs.Passing.{passes}
@@ -144,6 +144,6 @@ well-formed bs e =
     record {
       each-side = side-formed bs p;
       lower = f .lower;
-      propositions = subst⁻¹ (λ (n : ℕ). Propositions n (design bs .forms)) (sides-two bs) (own-propositions bs e);
+      propositions = subst⁻¹ (λ (n : ℕ). Propositions n (design bs .forms)) (sides-length bs) (own-propositions bs e);
       rules-there = f .rules-there;
     }
