@@ -20,7 +20,7 @@ add-s : tie.Need-add-s
 add-s c = search needs
 
 abbrev started : tie.After-slice-known2 → tie.Start
-started c = c .before .before .before .before .before .before
+started c = let named = c .before .before in named .before .before .before .before
 
 -- the slice keeps its length
 kept : (c : tie.After-slice-known2) → length (c .before .before .write-names .last .0) ≡ length (started c .args .s .now)

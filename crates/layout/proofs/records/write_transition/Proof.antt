@@ -25,9 +25,11 @@ same-length c = search needs
 
 returns : tie.Need-returns
 returns c =
-    let a = c .before .before .before .before .before .before .before .before .before .before .args in
-    c .before .before .write-word .ensures
-    ∙ ap (λ l. put l (a .at + side-count) (word-bytes (a .t .next))) (c .before .before .before .before .before .before .write-events .ensures)
+    let worded = c .before .before in
+    let told = worded .before .before .before .before in
+    let a = told .before .before .before .before .args in
+    worded .write-word .ensures
+    ∙ ap (λ l. put l (a .at + side-count) (word-bytes (a .t .next))) (told .write-events .ensures)
     ∙ put-behind (events-to (a .t .events)) (word-bytes (a .t .next)) (a .s .now) (a .at) side-count (length-events (a .t .events)) (omega arith)
 
 pub write-transition-spec : {M : Type 1} → statement M
