@@ -1,6 +1,6 @@
 -- `records::read_events` meets its contract. The invariant: the first i events are read.
-use mathlib.Core.Path.{_≡_, refl, ap, _∙_}
-use Prim.Native.Nat.{ℕ, _+_, _-_, _≤_}
+use mathlib.Core.Path.{refl, _∙_}
+use Prim.Native.Nat.{_+_, _-_, _≤_}
 use native.Mathlib.Omega.{arith}
 use Rattle.model.specs.Events.{tick}
 use Rattle.layout.specs.Sizes.{side-count}

@@ -1,6 +1,6 @@
 -- `records::read_names` meets its contract. The invariant: the first i names are read.
-use mathlib.Core.Path.{_≡_, refl, ap, _∙_}
-use Prim.Native.Nat.{ℕ, _+_, _-_, _≤_}
+use mathlib.Core.Path.{refl}
+use Prim.Native.Nat.{_+_, _-_, _≤_}
 use native.Mathlib.Omega.{arith}
 use Rattle.layout.specs.Sizes.{side-count}
 use Rattle.layout.specs.Bytes.{byte}

@@ -1,10 +1,9 @@
 -- `records::read_record` meets its contract. The invariant: the first k places are read.
-use mathlib.Core.Path.{_≡_, refl}
-use Prim.Native.Nat.{ℕ, _-_, _≤_}
+use mathlib.Core.Path.{refl}
+use Prim.Native.Nat.{_-_, _≤_}
 use native.Mathlib.Omega.{arith}
 use lib.Dec.{lit<}
 use lib.ListN.{replicate}
-use Rattle.layout.specs.declared.records.Transition.{Transition}
 use Rattle.layout.specs.Sizes.{place-count}
 use Rattle.layout.specs.Records.{no-transition, transition-at, record-at}
 use Rattle.layout.proofs.Tables.{FilledTo, filled-none, filled-more, filled-all}
