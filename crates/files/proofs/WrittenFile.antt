@@ -27,19 +27,19 @@ module _ (cs : List ℕ) (a : Accepted cs) (k : ℕ) (h : k < blocks-for (record
 
   -- and which they are
   pub block-part : part cs (block-record-bytes * k) block-record-bytes ≡ part cs (record-bytes * (block-records * k)) (record-bytes * held)
-  block-part = ap (λ i. part cs i 504) e ∙ by (decLt (records cs) (14 * k + 14))
+  block-part = ap (λ i. part cs i block-record-bytes) e ∙ by (decLt (records cs) (block-records * k + block-records))
     where
       w : length cs ≡ record-bytes * records cs
       w = a .whole
 
-      e : 504 * k ≡ 36 * (14 * k)
+      e : block-record-bytes * k ≡ record-bytes * (block-records * k)
       e = omega arith
 
-      by : Dec (records cs < 14 * k + 14) → part cs (36 * (14 * k)) 504 ≡ part cs (36 * (14 * k)) (36 * held)
+      by : Dec (records cs < block-records * k + block-records) → part cs (record-bytes * (block-records * k)) block-record-bytes ≡ part cs (record-bytes * (block-records * k)) (record-bytes * held)
       by (yes l) =
-          take-all 504 (drop (36 * (14 * k)) cs) (omega (arith, length-drop (36 * (14 * k)) cs))
-          ∙ sym (take-all (36 * held) (drop (36 * (14 * k)) cs) (omega (arith, length-drop (36 * (14 * k)) cs)))
-      by (no l) = let u : 504 ≡ 36 * held = omega arith in ap (part cs (36 * (14 * k))) u
+          take-all block-record-bytes (drop (record-bytes * (block-records * k)) cs) (omega (arith, length-drop (record-bytes * (block-records * k)) cs))
+          ∙ sym (take-all (record-bytes * held) (drop (record-bytes * (block-records * k)) cs) (omega (arith, length-drop (record-bytes * (block-records * k)) cs)))
+      by (no l) = let u : block-record-bytes ≡ record-bytes * held = omega arith in ap (part cs (record-bytes * (block-records * k))) u
 
   pub length-block-part : length (part cs (record-bytes * (block-records * k)) (record-bytes * held)) ≡ record-bytes * held
   length-block-part = let w = a .whole in length-part cs (record-bytes * (block-records * k)) (record-bytes * held) (omega arith)

@@ -150,11 +150,11 @@ module _ (cs : List ℕ) (a : Accepted cs) where
       let w = a .whole in
       let v : i < record-bytes * file-count file = omega (arith, length-file-records file) in
       let e : i < record-bytes * records cs = omega (arith, count-written) in
-      let k = i / 504 in
-      let p : file-place i ≡ block-bytes * k + (4 + i % 504) = omega arith in
-      let q : block-record-bytes * k + i % 504 ≡ i = omega arith in
+      let k = i / block-record-bytes in
+      let p : file-place i ≡ block-bytes * k + (4 + i % block-record-bytes) = omega arith in
+      let q : block-record-bytes * k + i % block-record-bytes ≡ i = omega arith in
       entry (λ j. byte file (file-place j)) 0 (record-bytes * file-count file) i v
-      ∙ ap (byte file) p ∙ record-byte k (omega arith) (i % 504) (omega arith) ∙ ap (byte cs) q)
+      ∙ ap (byte file) p ∙ record-byte k (omega arith) (i % block-record-bytes) (omega arith) ∙ ap (byte cs) q)
 
   pub accepted-back : AcceptedFile file
   unfolding records-right

@@ -2,21 +2,19 @@
 use mathlib.Core.Path.{_≡_, refl, sym, _∙_}
 use mathlib.Core.List.{List, [], _∷_}
 use Prim.Native.Nat.{ℕ, _*_, _^_, _≤_}
-use native.Mathlib.Omega.{arith}
 use native.Mathlib.Nat.{mul-le-mul, le-max-left}
 use borrow.Author.Tests.{leb-true}
 use lib.Dec.{lit<}
 use lib.IntN.{pos}
-use lib.ListN.{length}
 use lib.Pow.{pow-pos}
 use Rattle.model.specs.Judged.{all}
-use Rattle.model.specs.Positions.{kept-count, until-count, positions}
+use Rattle.model.specs.Positions.{kept-count, until-count, joint-count, positions}
 use Rattle.layout.specs.Sizes.{most-positions}
-use Rattle.layout.specs.Designs.{design, side}
+use Rattle.layout.specs.Designs.{design}
 use Rattle.refusals.specs.Refusals.{first-failing, design-tests, design-refusal, positions-test}
 use Rattle.refusals.proofs.Passing.{passed, refused-first, refused-later, none-first}
 use Rattle.refusals.proofs.CountedBytes.{accepted-counts}
-use Rattle.positions.proofs.PositionCount.{positions-product}
+use Rattle.positions.proofs.PositionCount.{some-joint}
 use Rattle.refusals.specs.Counted.{Accepted}
 use Rattle.gorzhani.specs.Codes.{refusal-code}
 use Rattle.gorzhani.specs.Calls.{positions-refusal, positions-number}
@@ -38,11 +36,10 @@ module _ (ds : List ℕ) where
       record { refusal = d; few = leb-true (positions (design ds)) most-positions (passed (positions-test ds) [] (lit< tt) (sym (refused-behind d) ∙ e) .0) }
 
   pub some-position : design-refusal ds ≡ 0 → 1 ≤ positions (design ds)
+  unfolding positions
   some-position e =
-      let c = accepted-counts ds e in
-      let joints : 1 * 1 ≤ length (side (design ds) 0) * length (side (design ds) 1) = mul-le-mul (c .some-state 0 (omega arith)) (c .some-state 1 (omega arith)) in
-      let owed : 1 * 1 * 1 ≤ length (side (design ds) 0) * length (side (design ds) 1) * 2 ^ kept-count (design ds) = mul-le-mul joints (pow-pos (kept-count (design ds))) in
-      omega (arith, positions-product ds, mul-le-mul owed (le-max-left 1 (until-count (design ds .forms))))
+      let owed : 1 * 1 ≤ joint-count (design ds .sides) * 2 ^ kept-count (design ds) = mul-le-mul (some-joint ds (accepted-counts ds e)) (pow-pos (kept-count (design ds))) in
+      mul-le-mul owed (le-max-left 1 (until-count (design ds .forms)))
 
   pub number-taken : positions-refusal ds ≡ 0 → positions-number ds ≡ pos (positions (design ds))
   number-taken = where-none (positions-refusal ds) (pos (positions (design ds))) (refusal-code (positions-refusal ds))

@@ -28,9 +28,9 @@ state-place (suc (suc i)) k h = absurd (omega arith)
 
 module _ (bs : List ℕ) where
   -- ---- sides
-  pub sides-two : length (design bs .sides) ≡ side-count
+  pub sides-length : length (design bs .sides) ≡ side-count
   unfolding design
-  sides-two = refl
+  sides-length = refl
 
   side-is : (i : ℕ) → i < side-count → side (design bs) i ≡ side-in bs (side-block i)
   unfolding design

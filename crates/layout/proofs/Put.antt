@@ -7,8 +7,11 @@ use native.Mathlib.Numerals.{add-one}
 use native.Mathlib.Omega.{arith}
 use lib.ListN.{length, take, drop, set, replicate, length-append, length-replicate, replicate-append-replicate}
 use lib.Seq.{sets, sets-eq, length-sets, take-at, drop-at, drop-drop, length-take-le}
+use Rattle.layout.specs.Tables.{table}
 use Rattle.layout.specs.Bytes.{byte, part, put}
+use Rattle.layout.proofs.Tables.{length-table}
 use Rattle.layout.proofs.Parts.{length-part, part-more}
+use Rattle.layout.proofs.Pieces.{table-more}
 
 -- a run of stores
 pub put-sets : (vs bs : List ℕ) (at : ℕ) → at + length vs ≤ length bs → sets bs at vs ≡ put bs at vs
@@ -81,3 +84,8 @@ pub copy-next : (src dst : List ℕ) (from at i : ℕ) → from + i < length src
 copy-next src dst from at i hs hd =
     put-next (part src from i) dst at i (byte src (from + i)) (length-part src from i (omega arith)) hd
     ∙ ap (λ l. put dst at l) (sym (part-more src from i hs))
+
+-- a turn of a loop that stores the entries of a table, one behind the other
+pub put-table-next : (f : ℕ → ℕ) (bs : List ℕ) (at i : ℕ) → at + i < length bs → set (put bs at (table i f)) (at + i) (f i) ≡ put bs at (table (i + 1) f)
+put-table-next f bs at i h =
+    put-next (table i f) bs at i (f i) (length-table f i) h ∙ ap (λ l. put bs at l) (sym (table-more f i))

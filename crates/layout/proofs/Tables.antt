@@ -1,14 +1,15 @@
 -- Tables by number and tests over them: length, entries, and how a loop that tests one number after another finds the answer.
 use mathlib.Core.Path.{_≡_, refl, sym, ap, subst, subst⁻¹, _∙_}
 use mathlib.Core.Bool.{Bool, true, false, not, _&&_}
-use mathlib.Core.List.{List}
-use Prim.Native.Nat.{ℕ, zero, suc, _+_, _<_}
+use mathlib.Core.List.{List, map}
+use Prim.Native.Nat.{ℕ, zero, suc, _+_, _≤_, _<_}
 use native.Mathlib.Nat.{not-suc-le-zero}
 use native.Mathlib.Decide.{ℕ-discrete, decLt}
 use native.Mathlib.Omega.{arith}
 use lib.Dec.{T, T-not, not-T}
-use lib.ListN.{length, getD}
-use lib.Seq.{ext-getD}
+use borrow.Author.Count.{below-more}
+use lib.ListN.{length, getD, set, length-set, length-map, List·getD-map}
+use lib.Seq.{getD-set-same, getD-set-other, ext-getD}
 use Rattle.model.specs.Judged.{all}
 use Rattle.model.proofs.Bools.{T-true, T-false, and-both, both-and}
 use Rattle.model.proofs.Lists.{all-in, in-all, getD-in, index-in}
@@ -123,3 +124,31 @@ module _ {A : Type 0} (f : ℕ → A) where
 pub as-table : {A : Type 0} (d : A) (n : ℕ) (l : List A) → length l ≡ n → l ≡ table n (λ k. getD l k d)
 as-table d n l e =
     ext-getD d l (table n (λ k. getD l k d)) (e ∙ sym (length-table (λ k. getD l k d) n)) (λ k h. sym (entry (λ j. getD l j d) d n k (omega arith)))
+
+-- ---- a list filled from the front, entry after entry, as a loop does it: its first i entries are those of f
+module _ {A : Type 0} (d : A) (f : ℕ → A) (n : ℕ) where
+  pub record FilledTo (i : ℕ) (l : List A) : Type 0 where
+    pub room : length l ≡ n
+    pub each : (j : ℕ) → j < i → getD l j d ≡ f j
+
+  pub filled-none : (l : List A) → length l ≡ n → FilledTo 0 l
+  filled-none l e = record { room = e; each = λ j h. absurd (not-suc-le-zero h) }
+
+  pub filled-more : (i : ℕ) (l : List A) (v : A) → i < n → FilledTo i l → v ≡ f i → FilledTo (i + 1) (set l i v)
+  filled-more i l v h t e =
+      record {
+        room = length-set l i v ∙ t .room;
+        each = below-more (λ j. getD (set l i v) j d ≡ f j) i
+            (λ j u. getD-set-other l i j v d (λ q. omega arith) ∙ t .each j u)
+            (getD-set-same l i v d (omega (arith, t .room)) ∙ e);
+      }
+
+  pub filled-all : (i : ℕ) (l : List A) → n ≤ i → FilledTo i l → l ≡ table n f
+  filled-all i l h t =
+      ext-getD d l (table n f) (t .room ∙ sym (length-table f n)) (λ j u. let v : j < n = omega (arith, t .room) in t .each j (omega arith) ∙ sym (entry f d n j v))
+
+-- a map by number
+pub table-map : {A B : Type 0} (f : A → B) (d : A) (l : List A) (n : ℕ) → length l ≡ n → table n (λ j. f (getD l j d)) ≡ map f l
+table-map f d l n e =
+    ext-getD (f d) (table n (λ j. f (getD l j d))) (map f l) (length-table (λ j. f (getD l j d)) n ∙ sym e ∙ sym (length-map l f))
+    (λ j h. entry (λ j. f (getD l j d)) (f d) n j (omega (arith, length-table (λ j. f (getD l j d)) n)) ∙ sym (List·getD-map f l j d))

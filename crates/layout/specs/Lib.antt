@@ -9,5 +9,6 @@ pub mod Unused
 pub mod Blocks
 pub mod Designs
 pub mod Joint
+pub mod Joints
 pub mod Converters
 pub mod Tests

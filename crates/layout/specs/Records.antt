@@ -17,16 +17,23 @@ use Rattle.layout.specs.Tables.{table, every}
 use Rattle.layout.specs.Bytes.{byte, word, event-of, event-byte, word-bytes}
 
 -- ---- reading
+-- a side state for each side, and an event for each side, from a place on
+abbrev pub names-at : List ℕ → ℕ → List ℕ
+names-at bs at = table side-count (λ i. byte bs (at + i))
+
+abbrev pub events-at : List ℕ → ℕ → List Event
+events-at bs at = table side-count (λ i. event-of (byte bs (at + i)))
+
 -- place k of the converter record that stands at `at`
 unfoldable pub transition-at : List ℕ → ℕ → ℕ → Transition
 transition-at bs at k =
     record {
-      events = table side-count (λ i. event-of (byte bs (at + places-at + transition-bytes * k + i)));
+      events = events-at bs (at + places-at + transition-bytes * k);
       next = word bs (at + places-at + transition-bytes * k + next-at);
     }
 
 unfoldable pub record-at : List ℕ → ℕ → Record
-record-at bs at = record { names = table side-count (λ i. byte bs (at + i)); count = byte bs (at + count-at); places = table place-count (transition-at bs at) }
+record-at bs at = record { names = names-at bs at; count = byte bs (at + count-at); places = table place-count (transition-at bs at) }
 
 -- ---- the model's converter state
 abbrev pub no-transition : Transition
@@ -40,12 +47,18 @@ unfoldable pub node-of : Record → Node
 node-of r = record { names = r .names; edges = table (r .count) (λ k. edge-of (getD (r .places) k no-transition)) }
 
 -- ---- writing
+abbrev pub names-to : List ℕ → List ℕ
+names-to ss = table side-count (λ i. getD ss i 0)
+
+abbrev pub events-to : List Event → List ℕ
+events-to es = table side-count (λ i. event-byte (getD es i tick))
+
 abbrev pub transition-to : Transition → List ℕ
-transition-to t = table side-count (λ i. event-byte (getD (t .events) i tick)) ++ word-bytes (t .next)
+transition-to t = events-to (t .events) ++ word-bytes (t .next)
 
 -- the names, the count and the unused byte
 abbrev pub header-to : Record → List ℕ
-header-to r = table side-count (λ i. getD (r .names) i 0) ++ (r .count ∷ 0 ∷ [])
+header-to r = names-to (r .names) ++ (r .count ∷ 0 ∷ [])
 
 unfoldable pub places-to : Record → List ℕ
 places-to r = flatten (table place-count (λ k. transition-to (getD (r .places) k no-transition)))
@@ -54,7 +67,7 @@ places-to r = flatten (table place-count (λ k. transition-to (getD (r .places) 
 abbrev pub record-to : Record → List ℕ
 record-to r = header-to r ++ places-to r
 
--- ---- at least one transition, and no event pair twice
+-- ---- at least one transition, and no events twice
 -- a transition that names no next record and no event: what stands in a place that is not used
 abbrev pub unused-transition : Transition
 unused-transition = record { events = table side-count (λ i. event-of 0); next = 0 }

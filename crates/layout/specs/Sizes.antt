@@ -1,5 +1,5 @@
 -- Specification, "Bytes" and "When a call declines": every size and every limit, in one place.
-use Prim.Native.Nat.{ℕ, _*_, _-_}
+use Prim.Native.Nat.{ℕ, _*_, _-_, _^_}
 use Rattle.model.specs.Joined.{side-labels}
 
 -- ---- what a design has
@@ -22,6 +22,16 @@ last-proposition = side-labels * side-count - 1
 -- transition places of a state, and of a converter record
 abbrev pub place-count : ℕ
 place-count = 8
+
+-- joint states, joint moves of one of them, and what these show: a send or none of each side
+abbrev pub most-joints : ℕ
+most-joints = most-states ^ side-count
+
+abbrev pub most-moves : ℕ
+most-moves = place-count ^ side-count
+
+abbrev pub show-count : ℕ
+show-count = 2 ^ side-count
 
 -- events are from -63 to 63
 abbrev pub last-event : ℕ

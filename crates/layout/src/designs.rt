@@ -1,5 +1,6 @@
 // What a design holds, by number: the states of each side, the formulas and the rules. Sides are numbered from 0.
 ghost use mathlib.Core.Path.{_≡_};
+ghost use mathlib.Core.List.{map};
 ghost use Prim.Native.Nat.{_<_};
 ghost use lib.ListN.{length, getD};
 ghost use Rattle.layout.specs.Sizes.{side-count, most-states, most-formulas, most-rules, design-bytes};
@@ -22,6 +23,21 @@ pub fn state_count(s: &[u8], i: usize) -> usize
     ensures { λ r. ⌜ r ≡ length (side (design (now (s .entry))) i) ⌝ }
 {
     words::read_byte(s, sizes::BLOCK_BYTES * i + sizes::COUNT_IN_BLOCK)
+}
+
+// How many states each side has.
+pub fn state_counts(s: &[u8]) -> [usize; sizes::SIDES]
+    requires { ⌜ length (now s) ≡ design-bytes ⌝ }
+    ensures { λ r. ⌜ r ≡ map length (design (now (s .entry)) .sides) ⌝ }
+{
+    let mut counts: [usize; sizes::SIDES] = [0; sizes::SIDES];
+    let mut i = 0;
+    // Those of the sides before i are there.
+    while i < sizes::SIDES {
+        counts[i] = state_count(s, i);
+        i += 1;
+    }
+    counts
 }
 
 // State k of side i.

@@ -1,10 +1,12 @@
 // Events: signed bytes, two's complement.
 ghost use mathlib.Core.Path.{_≡_};
-ghost use Prim.Native.Nat.{_<_};
-ghost use lib.ListN.{length};
-ghost use Rattle.model.specs.Events.{InRange, sent, dual, same-event};
+ghost use Prim.Native.Nat.{ℕ, _<_};
+ghost use lib.ListN.{length, getD};
+ghost use Rattle.model.specs.Events.{tick, InRange, sent, dual, duals, same-event};
+ghost use Rattle.layout.specs.Sizes.{side-count};
 ghost use Rattle.layout.specs.Bytes.{byte, event-of, event-byte};
 ghost use Rattle.layout.specs.Tests.{in-range};
+use crate::sizes;
 
 // The event that a byte stands for.
 pub fn to_event(b: u8) -> i8
@@ -58,6 +60,21 @@ pub fn dual_of(e: i8) -> i8
     ensures { λ r. ⌜ r ≡ dual e ⌝ }
 {
     -e
+}
+
+// The dual of the event of each side.
+pub fn duals(e: [i8; sizes::SIDES]) -> [i8; sizes::SIDES]
+    requires { ⌜ ((i : ℕ) → i < side-count → InRange (getD e i tick)) ⌝ }
+    ensures { λ r. ⌜ r ≡ duals e ⌝ }
+{
+    let mut d = e;
+    let mut i = 0;
+    // The first i events are negated.
+    while i < sizes::SIDES {
+        d[i] = dual_of(e[i]);
+        i += 1;
+    }
+    d
 }
 
 pub fn same(a: i8, b: i8) -> bool

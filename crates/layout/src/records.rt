@@ -3,9 +3,9 @@ ghost use mathlib.Core.Path.{_≡_};
 ghost use Prim.Native.Nat.{_+_, _*_, _<_, _≤_};
 ghost use lib.ListN.{length};
 ghost use Rattle.model.specs.Judged.{same-events};
-ghost use Rattle.layout.specs.Sizes.{place-count, places-at, record-bytes, transition-bytes};
+ghost use Rattle.layout.specs.Sizes.{side-count, place-count, places-at, record-bytes, transition-bytes};
 ghost use Rattle.layout.specs.Bytes.{put};
-ghost use Rattle.layout.specs.Records.{transition-at, record-at, transition-to, header-to, places-to, record-to, named, present, added};
+ghost use Rattle.layout.specs.Records.{names-at, events-at, transition-at, record-at, names-to, events-to, transition-to, header-to, places-to, record-to, named, present, added};
 use crate::events;
 use crate::sizes;
 use crate::words;
@@ -25,7 +25,7 @@ pub struct Record {
 
 pub enum Outcome {
     Added,
-    // The event pair is there already.
+    // The events are there already.
     Present,
     // All places are used.
     Full,
@@ -37,15 +37,45 @@ pub struct Addition {
     pub left: Record,
 }
 
+// The side states that are named from `at` on.
+pub fn read_names(s: &[u8], at: usize) -> [u8; sizes::SIDES]
+    requires { ⌜ at + side-count ≤ length (now s) ⌝ }
+    ensures { λ r. ⌜ r ≡ names-at (now (s .entry)) at ⌝ }
+{
+    let mut names: [u8; sizes::SIDES] = [0; sizes::SIDES];
+    let mut i = 0;
+    // The first i are read.
+    while i < sizes::SIDES {
+        names[i] = s[at + i];
+        i += 1;
+    }
+    names
+}
+
+// The events of the sides from `at` on.
+fn read_events(s: &[u8], at: usize) -> [i8; sizes::SIDES]
+    requires { ⌜ at + side-count ≤ length (now s) ⌝ }
+    ensures { λ r. ⌜ r ≡ events-at (now (s .entry)) at ⌝ }
+{
+    let mut read: [i8; sizes::SIDES] = [0; sizes::SIDES];
+    let mut i = 0;
+    // The first i are read.
+    while i < sizes::SIDES {
+        read[i] = events::read_event(s, at + i);
+        i += 1;
+    }
+    read
+}
+
 // Place k of the converter record at `at`.
 pub fn read_transition(s: &[u8], at: usize, k: usize) -> Transition
     requires { ⌜ (k < place-count) × (at + record-bytes ≤ length (now s)) ⌝ }
     ensures { λ r. ⌜ r ≡ transition-at (now (s .entry)) at k ⌝ }
 {
     let i = at + sizes::PLACES_AT + sizes::TRANSITION_BYTES * k;
-    let events = [events::read_event(s, i), events::read_event(s, i + 1)];
+    let read = read_events(s, i);
     Transition {
-        events: events,
+        events: read,
         next: words::read_word(s, i + sizes::NEXT_AT),
     }
 }
@@ -54,18 +84,17 @@ pub fn read_record(s: &[u8], at: usize) -> Record
     requires { ⌜ at + record-bytes ≤ length (now s) ⌝ }
     ensures { λ r. ⌜ r ≡ record-at (now (s .entry)) at ⌝ }
 {
-    let names = [s[at], s[at + 1]];
+    let names = read_names(s, at);
     let count = s[at + sizes::COUNT_AT];
-    let places = [
-        read_transition(s, at, 0),
-        read_transition(s, at, 1),
-        read_transition(s, at, 2),
-        read_transition(s, at, 3),
-        read_transition(s, at, 4),
-        read_transition(s, at, 5),
-        read_transition(s, at, 6),
-        read_transition(s, at, 7),
-    ];
+    let first = read_transition(s, at, 0);
+    let mut places = [first; sizes::PLACES];
+    let mut k = 1;
+    // The first k places are read.
+    while k < sizes::PLACES {
+        let t = read_transition(s, at, k);
+        places[k] = t;
+        k += 1;
+    }
     Record {
         names: names,
         count: count,
@@ -73,15 +102,19 @@ pub fn read_record(s: &[u8], at: usize) -> Record
     }
 }
 
-// Whether two event pairs are the same.
+// Whether two lists of events, one a side, are the same.
 pub fn same_events(x: [i8; sizes::SIDES], y: [i8; sizes::SIDES]) -> bool
     ensures { λ r. ⌜ r ≡ same-events x y ⌝ }
 {
-    let same = events::same(x[0], y[0]);
-    if same {
-        return events::same(x[1], y[1]);
+    let mut i = 0;
+    // The first i are the same.
+    while i < sizes::SIDES {
+        if !events::same(x[i], y[i]) {
+            return false;
+        }
+        i += 1;
     }
-    false
+    true
 }
 
 impl Record {
@@ -89,9 +122,9 @@ impl Record {
     pub fn new(names: [u8; sizes::SIDES]) -> Record
         ensures { λ r. ⌜ r ≡ named names ⌝ }
     {
-        let events = [0i8, 0i8];
+        let ticks: [i8; sizes::SIDES] = [0; sizes::SIDES];
         let unused = Transition {
-            events: events,
+            events: ticks,
             next: 0,
         };
         let places = [unused; sizes::PLACES];
@@ -150,16 +183,40 @@ impl Record {
     }
 }
 
+// The events of the sides, written at `at`.
+fn write_events(s: &mut [u8], at: usize, written: [i8; sizes::SIDES])
+    requires { ⌜ at + side-count ≤ length (now s) ⌝ }
+    ensures { λ _. ⌜ now (s .exit) ≡ put (now (s .entry)) at (events-to written) ⌝ }
+{
+    let mut i = 0;
+    // The first i are written.
+    while i < sizes::SIDES {
+        let b = events::to_byte(written[i]);
+        s[at + i] = b;
+        i += 1;
+    }
+}
+
+// The side states that a record names, written at `at`.
+fn write_names(s: &mut [u8], at: usize, names: [u8; sizes::SIDES])
+    requires { ⌜ at + side-count ≤ length (now s) ⌝ }
+    ensures { λ _. ⌜ now (s .exit) ≡ put (now (s .entry)) at (names-to names) ⌝ }
+{
+    let mut i = 0;
+    // The first i are written.
+    while i < sizes::SIDES {
+        s[at + i] = names[i];
+        i += 1;
+    }
+}
+
 // A transition place, written at `at`.
 pub fn write_transition(s: &mut [u8], at: usize, t: Transition)
     requires { ⌜ at + transition-bytes ≤ length (now s) ⌝ }
     ensures { λ _. ⌜ now (s .exit) ≡ put (now (s .entry)) at (transition-to t) ⌝ }
 {
-    let events = t.events;
-    let first = events::to_byte(events[0]);
-    let second = events::to_byte(events[1]);
-    s[at] = first;
-    s[at + 1] = second;
+    let written = t.events;
+    write_events(s, at, written);
     words::write_word(s, at + sizes::NEXT_AT, t.next);
 }
 
@@ -169,8 +226,7 @@ fn write_header(s: &mut [u8], at: usize, r: Record)
     ensures { λ _. ⌜ now (s .exit) ≡ put (now (s .entry)) at (header-to r) ⌝ }
 {
     let names = r.names;
-    s[at] = names[0];
-    s[at + 1] = names[1];
+    write_names(s, at, names);
     s[at + sizes::COUNT_AT] = r.count;
     s[at + sizes::GAP_AT] = 0;
 }

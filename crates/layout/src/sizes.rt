@@ -17,6 +17,13 @@ pub const LAST_PROPOSITION: usize = SIDE_LABELS * SIDES - 1;
 // Transition places of a state, and of a converter record.
 pub const PLACES: usize = 8;
 
+// Joint states, joint moves of one of them, and what these show: a send or none of each side.
+pub const MOST_JOINTS: usize = 256;
+
+pub const MOST_MOVES: usize = 64;
+
+pub const SHOWS: usize = 4;
+
 // The search takes a design with at most so many positions.
 pub const MOST_POSITIONS: usize = 65536;
 

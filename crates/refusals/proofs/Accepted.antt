@@ -58,12 +58,12 @@ module _ (cs : List ℕ) where
   unfolding converter
   converter-length = length-table _ _
 
-  pub two-names : (c : ℕ) → c < records cs → length (node (converter cs) c .names) ≡ side-count
-  two-names c h = sym (ap length (names-at cs c h)) ∙ length-table _ _
+  pub names-length : (c : ℕ) → c < records cs → length (node (converter cs) c .names) ≡ side-count
+  names-length c h = sym (ap length (names-at cs c h)) ∙ length-table _ _
 
-  pub two-events : (c k : ℕ) → c < records cs → k < length (node (converter cs) c .edges) → k < place-count → length (edge (node (converter cs) c) k .events) ≡ side-count
+  pub events-length : (c k : ℕ) → c < records cs → k < length (node (converter cs) c .edges) → k < place-count → length (edge (node (converter cs) c) k .events) ≡ side-count
   unfolding transition-at
-  two-events c k h l u = sym (ap (λ e. length (e .events)) (edge-read cs c h k l u)) ∙ length-table _ _
+  events-length c k h l u = sym (ap (λ e. length (e .events)) (edge-read cs c h k l u)) ∙ length-table _ _
 
   -- a record that is right
   pub right-well-formed : (c : ℕ) → c < records cs → record-right cs (records cs) (record-bytes * c) ≡ true → WellFormedNode (records cs) (node (converter cs) c)

@@ -1,20 +1,12 @@
 -- Tests 5, 6 and 7 of a design's bytes say what the model's predicates say of the design that the bytes spell, and a design that is not refused is well
 -- formed.
-use mathlib.Core.Path.{_≡_, ap, subst, subst⁻¹}
+use mathlib.Core.Path.{_≡_, subst, subst⁻¹}
 use mathlib.Core.Bool.{_&&_}
-use mathlib.Core.Logic.{_↔_, ⊎-elim}
-use mathlib.Core.List.{
-  List,
-  [],
-  _∷_,
-  List·Memᴰ as In,
-  List·Memᴰ·cases-cons as in-cases,
-  List·Memᴰ·eq-of-singleton as eq-of-singleton,
-  Memᴰ·append-left as append-left,
-}
+use mathlib.Core.Logic.{_↔_}
+use mathlib.Core.List.{List, [], _∷_, List·Memᴰ as In, Memᴰ·append-left as append-left}
 use Prim.Native.Nat.{ℕ, _≤_, _<_}
 use native.Mathlib.Omega.{arith}
-use lib.Dec.{T, leb, leb→le, eqb→eq}
+use lib.Dec.{T, leb, eqb, leb→le, eqb→eq}
 use lib.ListN.{length}
 use Rattle.model.specs.Sides.{Side, state, WellFormedState, HasKind, WellFormedSide}
 use Rattle.model.specs.Formulas.{Lower, Propositions}
@@ -23,13 +15,13 @@ use Rattle.model.specs.Judged.{all}
 use Rattle.model.proofs.Bools.{and-both, both-and}
 use Rattle.model.proofs.Lists.{all-in, in-all, of-map}
 use Rattle.layout.specs.Sizes.{side-count, design-bytes}
-use Rattle.layout.specs.Blocks.{Block, kernel, host, formulas, rules, side-blocks, design-blocks, record-count, record-place}
+use Rattle.layout.specs.Blocks.{Block, formulas, rules, side-blocks, design-blocks, record-count, record-place}
 use Rattle.layout.specs.States.{state-at, state-of}
 use Rattle.layout.specs.Designs.{side-in, design}
 use Rattle.layout.specs.Tests.{side-right, kinds-right, forms-right, rules-right}
 use Rattle.refusals.specs.Refusals.{check-right, header-right, count-right, unused-right, kinds-known, formulas-right, design-refusal}
 use Rattle.layout.proofs.Tables.{length-table}
-use Rattle.layout.proofs.DesignBytes.{sides-two}
+use Rattle.layout.proofs.DesignBytes.{sides-length}
 use Rattle.refusals.proofs.StateTests.{side-states-formed, side-kinds-formed}
 use Rattle.refusals.proofs.FormulaTests.{formulas-formed, rules-formed}
 use Rattle.refusals.proofs.Passing.{passes}
@@ -100,12 +92,14 @@ passed bs e =
     }
 
 -- ---- the limits of a side
+limited : T (all (λ (x : Block). eqb (x .least) 1 && eqb (x .most) 16) side-blocks)
+unfolding all
+limited = tt
+
 side-limits : (b : Block) → In b side-blocks → (b .least ≡ 1) × (b .most ≡ 16)
 side-limits b i =
-    ⊎-elim
-    (λ (e : b ≡ kernel). (ap (λ (x : Block). x .least) e, ap (λ (x : Block). x .most) e))
-    (λ (j : In b (host ∷ [])). let e = eq-of-singleton j in (ap (λ (x : Block). x .least) e, ap (λ (x : Block). x .most) e))
-    (in-cases i)
+    let w = and-both (eqb (b .least) 1) (eqb (b .most) 16) (all-in (λ (x : Block). eqb (x .least) 1 && eqb (x .most) 16) i limited) in
+    (eqb→eq (b .least) 1 (w .0), eqb→eq (b .most) 16 (w .1))
 
 length-side : (bs : List ℕ) (b : Block) → length (side-in bs b) ≡ record-count bs b
 unfolding side-in
@@ -144,6 +138,6 @@ well-formed bs e =
     record {
       each-side = side-formed bs p;
       lower = f .lower;
-      propositions = subst⁻¹ (λ (n : ℕ). Propositions n (design bs .forms)) (sides-two bs) (own-propositions bs e);
+      propositions = subst⁻¹ (λ (n : ℕ). Propositions n (design bs .forms)) (sides-length bs) (own-propositions bs e);
       rules-there = f .rules-there;
     }

@@ -37,12 +37,11 @@ pub fn record(s: &[u8], c: usize) -> Record
 }
 
 // The states of the sides that it names.
-pub fn names(s: &[u8], c: usize) -> [u8; 2]
+pub fn names(s: &[u8], c: usize) -> [u8; sizes::SIDES]
     requires { ⌜ c < records (now s) ⌝ }
     ensures { λ r. ⌜ r ≡ node (converter (now (s .entry))) c .names ⌝ }
 {
-    let at = sizes::RECORD_BYTES * c;
-    [s[at], s[at + 1]]
+    records::read_names(s, sizes::RECORD_BYTES * c)
 }
 
 // How many transitions it has.
@@ -77,7 +76,7 @@ pub fn size_right(s: &[u8]) -> bool
 }
 
 // Whether each is a number that a state can have.
-fn names_right(names: [u8; 2]) -> bool
+fn names_right(names: [u8; sizes::SIDES]) -> bool
     ensures { λ r. ⌜ r ≡ all (λ s. ltb s most-states) names ⌝ }
 {
     let mut i = 0;
@@ -104,8 +103,8 @@ fn transition_right(t: Transition, n: usize) -> bool
     (t.next as usize) < n
 }
 
-// Whether a record by itself is right, among n (11): its transitions are added one by one to a record that has none, so that an event pair
-// that stands twice is found present.
+// Whether a record by itself is right, among n (11): its transitions are added one by one to a record that has none, so that events
+// that stand twice are found present.
 fn node_right(r: Record, n: usize) -> bool
     ensures { λ b. ⌜ b ≡ node-right n (node-of r) ⌝ }
 {

@@ -19,7 +19,7 @@ use Rattle.layout.specs.Sizes.{side-count, record-bytes}
 use Rattle.layout.specs.Tables.{table, table-from}
 use Rattle.layout.specs.Converters.{records, converter}
 use Rattle.refusals.specs.Refusals.{first-failing, size-right, record-right}
-use Rattle.refusals.proofs.Accepted.{converter-length, two-events, right-well-formed}
+use Rattle.refusals.proofs.Accepted.{converter-length, events-length, right-well-formed}
 use Rattle.layout.proofs.Nodes.{WellFormedNode}
 use Rattle.layout.proofs.Tables.{as-table, and-true}
 use Rattle.runner.specs.declared.Runner.{Runner}
@@ -83,7 +83,7 @@ module _ (cs : List ℕ) (r : Runner) (xs : List Event) (sized : size-right cs �
     unfolding table table-from
     delivers j h =
         let e = edge here j in
-        sym (as-table tick side-count (side-events e) (length-map (e .events) dual ∙ two-events cs (r .«record») j there h (omega (arith, formed .at-most-eight))))
+        sym (as-table tick side-count (side-events e) (length-map (e .events) dual ∙ events-length cs (r .«record») j there h (omega (arith, formed .at-most-eight))))
 
     -- what shows a transition can be shown
     can : (j : ℕ) → j < length (here .edges) → ShowsAt xs (here .edges) j → all can-show xs ≡ true

@@ -4,18 +4,15 @@ ghost use mathlib.Core.Path.{_≡_};
 ghost use mathlib.Core.Bool.{true};
 ghost use mathlib.Core.List.{[], _∷_};
 ghost use Prim.Native.Nat.{_*_, _<_};
-ghost use Rattle.model.specs.Events.{duals};
 ghost use Rattle.model.specs.Converters.{node};
 ghost use Rattle.model.specs.Judged.{all};
 ghost use Rattle.model.specs.Runs.{fits, all-fit, first-fit};
 ghost use Rattle.layout.specs.Sizes.{record-bytes};
 ghost use Rattle.layout.specs.Converters.{records, converter};
-ghost use Rattle.layout.specs.Tests.{in-range};
 ghost use Rattle.refusals.specs.Refusals.{record-right};
 ghost use Rattle.runner.specs.Ticks.{can-show, tick-refusal, taken, ticked, Ticks};
 use layout::events;
-use layout::records::Transition;
-use layout::sizes::RECORD_BYTES;
+use layout::sizes;
 use refusals::converters;
 
 // What a host lends: the number of a record, and the events last delivered to the sides.
@@ -63,14 +60,18 @@ fn can_show(x: i8) -> bool
 }
 
 // The same of all sides.
-fn can_show_all(shown: [i8; 2]) -> bool
+fn can_show_all(shown: [i8; sizes::SIDES]) -> bool
     ensures { λ r. ⌜ r ≡ all can-show shown ⌝ }
 {
-    let first = can_show(shown[0]);
-    if first {
-        return can_show(shown[1]);
+    let mut i = 0;
+    // The first i sides can.
+    while i < sizes::SIDES {
+        if !can_show(shown[i]) {
+            return false;
+        }
+        i += 1;
     }
-    false
+    true
 }
 
 // Whether a shown event fits an event of its side: the event that it equals, and 0 any event that is not sent.
@@ -87,29 +88,24 @@ fn fits_event(shown: i8, event: i8) -> bool
 }
 
 // The same of all sides.
-fn fits_events(shown: [i8; 2], events: [i8; 2]) -> bool
+fn fits_events(shown: [i8; sizes::SIDES], events: [i8; sizes::SIDES]) -> bool
     ensures { λ r. ⌜ r ≡ all-fit shown events ⌝ }
 {
-    let first = fits_event(shown[0], events[0]);
-    if first {
-        return fits_event(shown[1], events[1]);
+    let mut i = 0;
+    // Those of the first i sides fit.
+    while i < sizes::SIDES {
+        if !fits_event(shown[i], events[i]) {
+            return false;
+        }
+        i += 1;
     }
-    false
-}
-
-// The sides' events of a transition: the duals of those in the record.
-fn side_events(t: Transition) -> [i8; 2]
-    requires { ⌜ all in-range (t .events) ≡ true ⌝ }
-    ensures { λ r. ⌜ r ≡ duals (t .events) ⌝ }
-{
-    let events = t.events;
-    [events::dual_of(events[0]), events::dual_of(events[1])]
+    true
 }
 
 // ---- the tick
 
 // The number of the first test that fails, 0 where all pass.
-fn tick_refusal(s: &[u8], c: usize, shown: [i8; 2]) -> u8
+fn tick_refusal(s: &[u8], c: usize, shown: [i8; sizes::SIDES]) -> u8
     ensures { λ r. ⌜ r ≡ tick-refusal (now (s .entry)) c shown ⌝ }
 {
     if !converters::size_right(s) {
@@ -119,7 +115,7 @@ fn tick_refusal(s: &[u8], c: usize, shown: [i8; 2]) -> u8
     if n <= c {
         return 17;
     }
-    if !converters::record_right(s, n, RECORD_BYTES * c) {
+    if !converters::record_right(s, n, sizes::RECORD_BYTES * c) {
         return 11;
     }
     if !can_show_all(shown) {
@@ -129,7 +125,7 @@ fn tick_refusal(s: &[u8], c: usize, shown: [i8; 2]) -> u8
 }
 
 // The first transition of record c that fits is taken, where c is a right record.
-fn take_first(s: &[u8], c: usize, runner: Runner, shown: [i8; 2]) -> Ticked
+fn take_first(s: &[u8], c: usize, runner: Runner, shown: [i8; sizes::SIDES]) -> Ticked
     requires { ⌜ (c < records (now s)) × (record-right (now s) (records (now s)) (record-bytes * c) ≡ true) ⌝ }
     ensures { λ t. ⌜ t ≡ taken runner (first-fit shown (node (converter (now (s .entry))) c .edges)) ⌝ }
 {
@@ -138,7 +134,9 @@ fn take_first(s: &[u8], c: usize, runner: Runner, shown: [i8; 2]) -> Ticked
     // None of the first k transitions fits.
     while k < n {
         let t = converters::edge_at(s, c, k);
-        let events = side_events(t);
+        // The sides' events are the duals of those in the record.
+        let e = t.events;
+        let events = events::duals(e);
         if fits_events(shown, events) {
             return Ticked {
                 answer: Answer::Done,

@@ -1,12 +1,34 @@
 //! A design in flat arrays.
 
+use std::array::from_fn;
+
 use crate::converter::RECORD;
+use crate::joints;
 use crate::{blank, check, demand, in_range, word};
 
 /// How many sides there are: the kernel, then the host.
-const SIDES: usize = 2;
-/// How many propositions there are: for each side the 16 bits of a label word.
-const PROPOSITIONS: usize = 16 * SIDES;
+pub const SIDES: usize = 2;
+/// The most states of a side.
+pub const STATES: usize = 16;
+/// The transition places of a state, and of a converter record.
+pub const PLACES: usize = 8;
+/// The labels of a side: the bits of a label word.
+pub const LABELS: usize = 16;
+/// How many propositions there are: the labels of each side.
+const PROPOSITIONS: usize = LABELS * SIDES;
+
+/// The blocks: one for each side, then the formulas, then the rules.
+const BLOCKS: usize = SIDES + 2;
+const FORMULAS: usize = SIDES;
+const RULES: usize = SIDES + 1;
+
+/// The bytes of a record of each block.
+const RECORD_BYTES: [usize; BLOCKS] = {
+    let mut bytes = [20; BLOCKS];
+    bytes[FORMULAS] = 4;
+    bytes[RULES] = 1;
+    bytes
+};
 
 /// An input state: no sent event.
 pub const INPUT: u8 = 0;
@@ -28,19 +50,20 @@ pub struct State {
     /// How many transitions are used.
     pub count: usize,
     /// Their events.
-    pub events: [i8; 8],
+    pub events: [i8; PLACES],
     /// Their targets.
-    pub targets: [u8; 8],
+    pub targets: [u8; PLACES],
 }
 
-const EMPTY: State = State { label: 0, kind: INPUT, count: 0, events: [0; 8], targets: [0; 8] };
+const EMPTY: State =
+    State { label: 0, kind: INPUT, count: 0, events: [0; PLACES], targets: [0; PLACES] };
 
 /// A design.
 pub struct Design {
     /// How many states each side has.
     pub states: [usize; SIDES],
     /// The states of each side.
-    pub sides: [[State; 16]; SIDES],
+    pub sides: [[State; STATES]; SIDES],
     /// Kind, first and second operand of each formula.
     pub formulas: Vec<[u8; 3]>,
     /// The rules.
@@ -50,40 +73,39 @@ pub struct Design {
 impl Design {
     /// Reads a design, or declines with 1 to 8.
     pub fn read(bytes: &[u8]) -> Result<Design, u8> {
-        demand(bytes.len() == 2_048, 1)?;
-        let block = |number: usize| &bytes[512 * number..512 * (number + 1)];
-        let blocks = [block(0), block(1), block(2), block(3)];
+        demand(bytes.len() == 512 * BLOCKS, 1)?;
+        let blocks: [&[u8]; BLOCKS] = from_fn(|number| &bytes[512 * number..512 * (number + 1)]);
         demand(blocks.iter().all(|block| check(block) == word(block, 510)), 2)?;
         let headed = |(kind, block): (u8, &&[u8])| block[0] == kind && word(block, 2) == 0;
         demand((1..).zip(&blocks).all(headed), 3)?;
         let counts = blocks.map(|block| usize::from(block[1]));
-        let counted = |count: usize| (1..=16).contains(&count);
-        demand(counted(counts[0]) && counted(counts[1]) && counts[2] <= 64 && counts[3] <= 16, 4)?;
-        let mut sides = [[EMPTY; 16]; SIDES];
+        let states: [usize; SIDES] = from_fn(|side| counts[side]);
+        let counted = states.iter().all(|count| (1..=STATES).contains(count));
+        demand(counted && counts[FORMULAS] <= 64 && counts[RULES] <= 16, 4)?;
+        // The records of each block, and what is behind them.
+        let parts: [(&[u8], &[u8]); BLOCKS] =
+            from_fn(|at| blocks[at][4..510].split_at(RECORD_BYTES[at] * counts[at]));
+        let records = |at: usize| parts[at].0.chunks_exact(RECORD_BYTES[at]);
+        let mut sides = [[EMPTY; STATES]; SIDES];
         for side in 0..SIDES {
-            for state in 0..counts[side] {
-                let record = &blocks[side][4 + 20 * state..24 + 20 * state];
-                sides[side][state] = read_state(record, counts[side]).ok_or(5)?;
+            for (state, record) in sides[side].iter_mut().zip(records(side)) {
+                *state = read_state(record, states[side]).ok_or(5)?;
             }
         }
-        for side in 0..SIDES {
-            for (own, state) in sides[side][..counts[side]].iter_mut().enumerate() {
+        for (side, &count) in sides.iter_mut().zip(&states) {
+            for (own, state) in side[..count].iter_mut().enumerate() {
                 state.kind = kind(state, own).ok_or(6)?;
             }
         }
-        let formulas: Vec<[u8; 3]> = blocks[2][4..4 + 4 * counts[2]]
-            .chunks_exact(4)
-            .map(|record| [record[0], record[1], record[2]])
-            .collect();
+        let formulas: Vec<[u8; 3]> =
+            records(FORMULAS).map(|record| [record[0], record[1], record[2]]).collect();
         let right = |(number, formula): (usize, &[u8; 3])| operands_right(number, formula);
         demand(formulas.iter().enumerate().all(right), 7)?;
-        let rules = blocks[3][4..4 + counts[3]].to_vec();
+        let rules = parts[RULES].0.to_vec();
         demand(rules.iter().all(|&rule| usize::from(rule) < formulas.len()), 7)?;
-        let used = [20 * counts[0], 20 * counts[1], 4 * counts[2], counts[3]];
-        let tails = (0..4).all(|at| blank(&blocks[at][4 + used[at]..510]));
+        let tails = parts.iter().all(|(_, behind)| blank(behind));
         let unused = |state: &[u8]| state[3] == 0 && blank(&state[4 + 2 * usize::from(state[2])..]);
-        let states =
-            (0..SIDES).all(|side| blocks[side][4..4 + used[side]].chunks_exact(20).all(unused));
+        let state_records = (0..SIDES).all(|side| records(side).all(unused));
         let absent = |record: &[u8]| {
             let operands = match record[0] {
                 1 | 2 => 0,
@@ -92,17 +114,9 @@ impl Design {
             };
             blank(&record[1 + operands..])
         };
-        let formula_records = blocks[2][4..4 + used[2]].chunks_exact(4).all(absent);
-        demand(tails && states && formula_records, 8)?;
-        Ok(Design { states: [counts[0], counts[1]], sides, formulas, rules })
-    }
-
-    /// The propositions that hold of a pair of states, proposition p as bit p: the host's label
-    /// word stands above the kernel's.
-    #[inline]
-    pub fn propositions(&self, pair: [usize; SIDES]) -> u32 {
-        let [kernel, host] = [0, 1].map(|side| u32::from(self.sides[side][pair[side]].label));
-        host << 16 | kernel
+        let formula_records = records(FORMULAS).all(absent);
+        demand(tails && state_records && formula_records, 8)?;
+        Ok(Design { states, sides, formulas, rules })
     }
 
     /// Which formulas are kept, as bits.
@@ -126,8 +140,8 @@ impl Design {
     /// The positions, for which the lent table and work must do; or 9, 12 and 13.
     pub fn room(&self, table: &[u8], work: &[u8]) -> Result<usize, u8> {
         let kept = self.kept().count_ones();
-        let states = self.states[0] * self.states[1];
-        let positions = (states * self.untils().max(1)).checked_shl(kept).filter(|_| kept <= 16);
+        let joints = joints::count(self.states);
+        let positions = (joints * self.untils().max(1)).checked_shl(kept).filter(|_| kept <= 16);
         let positions = positions.filter(|&positions| positions <= 65_536).ok_or(9)?;
         demand(table.len() >= RECORD * positions, 12)?;
         demand(work.len() >= 16 * positions, 13)?;
@@ -138,7 +152,7 @@ impl Design {
 /// A state whose transitions are right, of a side with so many states.
 fn read_state(record: &[u8], states: usize) -> Option<State> {
     let count = usize::from(record[2]);
-    if !(1..=8).contains(&count) {
+    if !(1..=PLACES).contains(&count) {
         return None;
     }
     let mut state = State { label: word(record, 0), count, ..EMPTY };

@@ -1,9 +1,12 @@
 //! The judge: matched, then for each formula the records at which it holds,
 //! as one bit set.
 
-use crate::converter::{counted_right, RECORD};
+use std::array::from_fn;
+
+use crate::converter::{counted_right, names_of, next_of, side_events, transitions, RECORD};
 use crate::demand;
-use crate::design::{Design, DELAYED, INPUT, NOWHERE};
+use crate::design::{Design, State, DELAYED, NOWHERE, SIDES};
+use crate::joint::{duty_of, joint_count, joint_state, label_words, show_of, stacked, Duty};
 
 /// Judges a converter: yes, or 1 to 8, 10, 11 and 13 to 15.
 pub fn judge(design: &[u8], converter: &[u8], work: &mut [u8]) -> Result<(), u8> {
@@ -17,7 +20,7 @@ pub fn judge(design: &[u8], converter: &[u8], work: &mut [u8]) -> Result<(), u8>
 
 /// For each state of a side and each event, the target.
 fn targets(design: &Design, side: usize) -> Vec<[u8; 128]> {
-    let of_state = |state: &crate::design::State| {
+    let of_state = |state: &State| {
         let mut targets = [NOWHERE; 128];
         for place in 0..state.count {
             targets[(state.events[place] + 63) as usize] = state.targets[place];
@@ -29,36 +32,35 @@ fn targets(design: &Design, side: usize) -> Vec<[u8; 128]> {
 
 /// Whether a converter, right in itself, is matched to the sides.
 fn matched(design: &Design, converter: &[u8]) -> bool {
-    let targets = [targets(design, 0), targets(design, 1)];
+    let targets: [_; SIDES] = from_fn(|side| targets(design, side));
     let matched = |record: &[u8]| {
-        let pair = [usize::from(record[0]), usize::from(record[1])];
-        if pair[0] >= design.states[0] || pair[1] >= design.states[1] {
+        let names = names_of(record);
+        if (0..SIDES).any(|side| usize::from(names[side]) >= design.states[side]) {
             return false;
         }
-        let (first, second) = (&targets[0][pair[0]], &targets[1][pair[1]]);
-        let (mut links, mut sends) = (0, [0, 0]);
-        for place in record[4..4 + 4 * usize::from(record[2])].chunks_exact(4) {
-            // The side's event is the negation of the record's.
-            let to_first = first[(63 - place[0] as i8) as usize];
-            let to_second = second[(63 - place[1] as i8) as usize];
-            let next = RECORD * usize::from(crate::word(place, 2));
+        let targets: [&[u8; 128]; SIDES] = from_fn(|side| &targets[side][usize::from(names[side])]);
+        let links = transitions(record);
+        for link in links {
+            let events = side_events(link);
+            let to = names_of(&converter[RECORD * usize::from(next_of(link))..]);
             // A target that isn't there is larger than any state that a record names.
-            if converter[next] != to_first || converter[next + 1] != to_second {
+            if (0..SIDES).any(|side| to[side] != targets[side][(events[side] + 63) as usize]) {
                 return false;
             }
-            links += 1;
-            sends[0] += usize::from(place[0] as i8 > 0);
-            sends[1] += usize::from(place[1] as i8 > 0);
         }
-        let states = [&design.sides[0][pair[0]], &design.sides[1][pair[1]]];
-        match [states[0].kind, states[1].kind] {
-            [DELAYED, INPUT] => links == 2 && sends[0] == 1,
-            [INPUT, DELAYED] => links == 2 && sends[1] == 1,
-            [INPUT, _] | [_, INPUT] => true,
-            _ => links == states[0].count * states[1].count,
+        let states = joint_state(design, names);
+        match duty_of(states) {
+            Duty::Every => links.len() == joint_count(states),
+            Duty::OneEach => {
+                let delayed = states.iter().filter(|state| state.kind == DELAYED).count();
+                let show = |link| 1_u32 << show_of(side_events(link));
+                let shows = links.iter().fold(0, |shows, link| shows | show(link));
+                links.len() == 1 << delayed && shows.count_ones() == 1 << delayed
+            }
+            Duty::Some => true,
         }
     };
-    converter[0] == 0 && converter[1] == 0 && converter.chunks_exact(RECORD).all(matched)
+    names_of(converter) == [0; SIDES] && converter.chunks_exact(RECORD).all(matched)
 }
 
 /// The converter's graph: next records, and the records before each.
@@ -75,8 +77,7 @@ impl Graph {
         let (mut next, mut next_from) = (Vec::with_capacity(2 * records), vec![0; records + 1]);
         let mut before_from = vec![0_u32; records + 1];
         for (own, record) in converter.chunks_exact(RECORD).enumerate() {
-            for place in record[4..4 + 4 * usize::from(record[2])].chunks_exact(4) {
-                let to = crate::word(place, 2);
+            for to in transitions(record).iter().map(next_of) {
                 next.push(to);
                 before_from[usize::from(to) + 1] += 1;
             }
@@ -120,9 +121,9 @@ fn keeps_rules(design: &Design, converter: &[u8]) -> bool {
     let records = converter.len() / RECORD;
     let words = records.div_ceil(64);
     let graph = Graph::new(converter);
-    let labels: Vec<u32> = converter
+    let labels: Vec<u64> = converter
         .chunks_exact(RECORD)
-        .map(|record| design.propositions([record[0], record[1]].map(usize::from)))
+        .map(|record| stacked(label_words(joint_state(design, names_of(record)))))
         .collect();
     let mut truth: Vec<u64> = vec![0; words * design.formulas.len()];
     let mut waits: Vec<u8> = Vec::new();
@@ -140,7 +141,7 @@ fn keeps_rules(design: &Design, converter: &[u8]) -> bool {
                     *bits = labels
                         .iter()
                         .enumerate()
-                        .fold(0, |bits, (at, label)| bits | u64::from(label >> a & 1) << at);
+                        .fold(0, |bits, (at, label)| bits | (label >> a & 1) << at);
                     if kind == 4 {
                         *bits = !*bits;
                     }

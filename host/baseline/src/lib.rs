@@ -3,6 +3,7 @@
 //! [`same`], which searches by the library's own steps.
 //!
 //! - [`design`]: a design in flat arrays, read with every refusal.
+//! - `joint`, `joints`: the sides joined, and joint states by number.
 //! - [`converter`]: converter records, and converter files as blocks.
 //! - [`judge`](mod@judge): truth as one bit set over the records for each formula.
 //! - [`search`](mod@search): the game over bit sets of owed formulas.
@@ -13,6 +14,8 @@
 
 pub mod converter;
 pub mod design;
+mod joint;
+mod joints;
 pub mod judge;
 pub mod same;
 pub mod search;

@@ -287,7 +287,7 @@ fn mesh(records: usize, (formulas, rules): (Vec<Formula>, Vec<u8>)) -> Judged {
                 links.push(Link { events, next });
             }
         }
-        Record { pair: here.map(|state| state as u8), links }
+        Record { states: here.map(|state| state as u8), links }
     };
     let converter: Vec<Record> = (0..records).map(record).collect();
     Judged { design: design.to_bytes(), converter: converter_bytes(&converter) }
@@ -303,7 +303,7 @@ fn chain(records: usize, shuffled: bool, (formulas, rules): (Vec<Formula>, Vec<u
     if shuffled {
         Random::new(records as u64).shuffle(&mut order[1..]);
     }
-    let mut converter = vec![Record { pair: [0, 0], links: vec![] }; records];
+    let mut converter = vec![Record { states: [0, 0], links: vec![] }; records];
     for (at, &own) in order.iter().enumerate() {
         let end = at + 1 == records;
         let (event, next) = match order.get(at + 1) {
@@ -311,7 +311,7 @@ fn chain(records: usize, shuffled: bool, (formulas, rules): (Vec<Formula>, Vec<u
             Some(&next) if at + 2 == records => (-1, next),
             Some(&next) => (0, next),
         };
-        converter[own].pair[0] = u8::from(end);
+        converter[own].states[0] = u8::from(end);
         converter[own].links.push(Link { events: [event, 0], next: next as u16 });
     }
     Judged { design: design.to_bytes(), converter: converter_bytes(&converter) }

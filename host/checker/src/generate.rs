@@ -2,14 +2,15 @@
 //!
 //! The same seed always gives the same things.
 
+use std::array::from_fn;
 use std::collections::BTreeSet;
 
 use crate::bytes::{
     converter_bytes, read_design, seal, write_blocks, Design, Formula, Link, Record, State,
-    StateKind, Transition, BLOCK_BYTES, BLOCK_RECORDS, FORMULA_BYTES, HEADER_BYTES, PLACES,
-    RECORD_BYTES, SIDES, SIDE_LABELS,
+    StateKind, Transition, BLOCK_BYTES, BLOCK_RECORDS, FORMULA_BYTES, HEADER_BYTES, MOST_STATES,
+    PLACES, RECORD_BYTES, SIDES, SIDE_LABELS,
 };
-use crate::joined::{enabling, pairs, proposition, steps, Enabling, Pair, Step};
+use crate::joined::{enabling, joint_states, proposition, steps, Enabling, Joint, Step};
 use crate::judge::model;
 use crate::tick::{tick, PlainSides, Runner};
 
@@ -73,7 +74,7 @@ pub struct Shape {
     pub states: usize,
     /// The most transitions of an input state.
     pub transitions: usize,
-    /// Each side uses its labels below this, and formulas name those of either side.
+    /// Each side uses its labels below this, and formulas name those of every side.
     pub propositions: usize,
     /// The most formulas.
     pub formulas: usize,
@@ -107,7 +108,7 @@ pub fn any_design(random: &mut Random) -> Design {
 /// A well-formed design. Its formulas use each other freely, or each rule is
 /// a tree of its own; the latter are more often hard to keep and yet possible.
 pub fn design(random: &mut Random, shape: &Shape) -> Design {
-    let sides = [side(random, shape), side(random, shape)];
+    let sides = from_fn(|_| side(random, shape));
     if random.once_in(2) {
         let count = random.from_to(0, shape.formulas);
         let formulas = formulas(random, shape, count);
@@ -151,8 +152,8 @@ fn state(random: &mut Random, shape: &Shape, own: usize, states: usize, reads: b
     State { label: label(random, shape), transitions }
 }
 
-/// A label word, with each label half of the time. Both sides use the same bits, so
-/// that a test tells whether one side's label is taken for the other's.
+/// A label word, with each label half of the time. All sides use the same bits, so
+/// that a test tells whether one side's label is taken for another's.
 fn label(random: &mut Random, shape: &Shape) -> u16 {
     (random.bits() >> 16) as u16 & (u16::MAX >> (SIDE_LABELS - shape.propositions))
 }
@@ -189,7 +190,7 @@ pub fn formulas(random: &mut Random, shape: &Shape, count: usize) -> Vec<Formula
     (0..count).map(|number| formula(random, shape, number)).collect()
 }
 
-/// A label of either side, as formulas name it.
+/// A label of any side, as formulas name it.
 fn any_proposition(random: &mut Random, shape: &Shape) -> u8 {
     proposition(random.below(SIDES), random.below(shape.propositions))
 }
@@ -269,8 +270,10 @@ fn tree(random: &mut Random, shape: &Shape, formulas: &mut Vec<Formula>, depth: 
 /// so with up to three rules the design is well-formed.
 pub fn progress_design(random: &mut Random, shape: &Shape) -> Design {
     let states = random.from_to(2, shape.states.max(2));
-    let reader = (0..states).map(|own| state(random, shape, own, states, true)).collect();
-    let mut sides = [reader, side(random, shape)];
+    let mut sides = from_fn(|number| match number {
+        0 => (0..states).map(|own| state(random, shape, own, states, true)).collect(),
+        _ => side(random, shape),
+    });
     random.shuffle(&mut sides);
     let mut formulas = Vec::new();
     let count = random.from_to(1, shape.rules);
@@ -394,7 +397,7 @@ pub fn named_propositions(bytes: &[u8]) -> Vec<usize> {
     let names = |number: &usize| {
         matches!(formulas[*number], Formula::Proposition(_) | Formula::NotProposition(_))
     };
-    let place = |number: usize| 2 * BLOCK_BYTES + HEADER_BYTES + FORMULA_BYTES * number + 1;
+    let place = |number: usize| SIDES * BLOCK_BYTES + HEADER_BYTES + FORMULA_BYTES * number + 1;
     (0..formulas.len()).filter(names).map(place).collect()
 }
 
@@ -435,24 +438,24 @@ pub fn loose_record(random: &mut Random, records: usize) -> Record {
     let count = random.from_to(1, PLACES);
     let mut links: Vec<Link> = Vec::new();
     while links.len() < count {
-        let events = [random.below(127) as i8 - 63, random.below(127) as i8 - 63];
+        let events = from_fn(|_| random.below(127) as i8 - 63);
         if links.iter().all(|link| link.events != events) {
             links.push(Link { events, next: random.below(records) as u16 });
         }
     }
-    Record { pair: [random.below(16) as u8, random.below(16) as u8], links }
+    Record { states: from_fn(|_| random.below(MOST_STATES) as u8), links }
 }
 
 /// A converter matched to the sides of a design, with at most `spare` records
 /// beyond those that its transitions need.
 pub fn matched_converter(random: &mut Random, design: &Design, spare: usize) -> Vec<Record> {
-    let mut named: Vec<Pair> = vec![[0, 0]];
+    let mut named: Vec<Joint> = vec![[0; SIDES]];
     let mut spare = spare;
     let mut converter = Vec::new();
     while converter.len() < named.len() {
-        let pair = named[converter.len()];
+        let joint = named[converter.len()];
         let mut links = Vec::new();
-        for step in enabled(random, design, pair) {
+        for step in enabled(random, design, joint) {
             let fitting: Vec<usize> = (0..named.len()).filter(|&at| named[at] == step.to).collect();
             let fresh = fitting.is_empty() || (spare > 0 && random.once_in(3));
             let next = if fresh {
@@ -465,20 +468,18 @@ pub fn matched_converter(random: &mut Random, design: &Design, spare: usize) -> 
             links.push(Link { events: step.events.map(|event| -event), next: next as u16 });
         }
         random.shuffle(&mut links);
-        converter.push(Record { pair: pair.map(|state| state as u8), links });
+        converter.push(Record { states: joint.map(|state| state as u8), links });
     }
     converter
 }
 
-/// Transitions of a pair that a converter may enable together.
-fn enabled(random: &mut Random, design: &Design, pair: Pair) -> Vec<Step> {
-    let mut steps = steps(design, pair);
-    match enabling(design, pair) {
+/// Transitions of a joint state that a converter may enable together.
+fn enabled(random: &mut Random, design: &Design, joint: Joint) -> Vec<Step> {
+    let mut steps = steps(design, joint);
+    match enabling(design, joint) {
         Enabling::All => steps,
-        Enabling::SendAndTick(side) => {
-            let (sending, waiting): (Vec<Step>, Vec<Step>) =
-                steps.into_iter().partition(|step| step.events[side] < 0);
-            vec![*random.pick(&sending), *random.pick(&waiting)]
+        duty @ Enabling::OneForEachChoice(_) => {
+            duty.turns(steps).iter().map(|turn| *random.pick(turn)).collect()
         }
         Enabling::Some => {
             random.shuffle(&mut steps);
@@ -489,35 +490,32 @@ fn enabled(random: &mut Random, design: &Design, pair: Pair) -> Vec<Step> {
     }
 }
 
-/// The converter with one record for each pair that enables the first
+/// The converter with one record for each joint state that enables the first
 /// transitions it may. Where it keeps the rules there is little to find.
 pub fn lax_converter(design: &Design) -> Vec<Record> {
-    let pairs = pairs(design);
-    let number = |to: Pair| pairs.iter().position(|&pair| pair == to).expect("a pair") as u16;
-    let lax_record = |&pair: &Pair| {
-        let mut enabled = steps(design, pair);
-        match enabling(design, pair) {
-            Enabling::All => {}
-            Enabling::Some => enabled.truncate(PLACES),
-            Enabling::SendAndTick(side) => {
-                let (sending, waiting): (Vec<Step>, Vec<Step>) =
-                    enabled.into_iter().partition(|step| step.events[side] < 0);
-                enabled = vec![sending[0], waiting[0]];
-            }
-        }
-        let link =
-            |step: &Step| Link { events: step.events.map(|event| -event), next: number(step.to) };
+    let joints = joint_states(design);
+    let number = |to: Joint| joints.iter().position(|&joint| joint == to).expect("it is there");
+    let lax_record = |&joint: &Joint| {
+        let steps = steps(design, joint);
+        let enabled: Vec<Step> = match enabling(design, joint) {
+            Enabling::Some => steps.into_iter().take(PLACES).collect(),
+            duty => duty.turns(steps).iter().map(|turn| turn[0]).collect(),
+        };
+        let link = |step: &Step| {
+            let next = number(step.to) as u16;
+            Link { events: step.events.map(|event| -event), next }
+        };
         let links = enabled.iter().map(link).collect();
-        Record { pair: pair.map(|state| state as u8), links }
+        Record { states: joint.map(|state| state as u8), links }
     };
-    pairs.iter().map(lax_record).collect()
+    joints.iter().map(lax_record).collect()
 }
 
 /// A design and a matched converter that keeps its rules, of which one at
 /// least fails under the lax converter.
 pub fn planted_design(random: &mut Random, shape: &Shape) -> (Design, Vec<Record>) {
     loop {
-        let sides = [0, 1].map(|_| side(random, shape));
+        let sides = from_fn(|_| side(random, shape));
         let formulas = if random.once_in(2) {
             trees(random, shape).0
         } else {
@@ -561,7 +559,7 @@ pub fn nearly_matched_converter(random: &mut Random, design: &Design, spare: usi
             converter[at].links.remove(link);
         }
         1 if links < PLACES => {
-            let events = random.pick(&steps(design, converter[at].pair.map(usize::from))).events;
+            let events = random.pick(&steps(design, converter[at].states.map(usize::from))).events;
             let events = events.map(|event| -event);
             if converter[at].links.iter().all(|link| link.events != events) {
                 converter[at].links.push(Link { events, next: random.below(records) as u16 });
@@ -570,13 +568,13 @@ pub fn nearly_matched_converter(random: &mut Random, design: &Design, spare: usi
         2 => converter[at].links[link].next = random.below(records) as u16,
         3 => {
             let mut events = converter[at].links[link].events;
-            let side = random.below(2);
+            let side = random.below(SIDES);
             events[side] = if random.once_in(2) { -events[side] } else { signal(random) as i8 };
             if converter[at].links.iter().all(|link| link.events != events) {
                 converter[at].links[link].events = events;
             }
         }
-        4 => converter[at].pair[random.below(2)] = random.below(16) as u8,
+        4 => converter[at].states[random.below(SIDES)] = random.below(MOST_STATES) as u8,
         _ => converter.swap(0, at),
     }
     converter
@@ -620,24 +618,24 @@ pub fn block_file(random: &mut Random, most_records: usize) -> Vec<u8> {
     file
 }
 
-/// What the two sides show at each call of a run: mostly what their tables
+/// What the sides show at each call of a run: mostly what their tables
 /// allow where they are then, at times anything at all.
 pub fn script(
     random: &mut Random,
     design: &Design,
     converter: &[u8],
     calls: usize,
-) -> Vec<[i8; 2]> {
-    let mut runner = Runner { record: 0, delivered: [0, 0] };
+) -> Vec<[i8; SIDES]> {
+    let mut runner = Runner { record: 0, delivered: [0; SIDES] };
     let mut sides = PlainSides::default();
     let mut script = Vec::new();
     for _ in 0..calls {
-        let mut shown = [0, 1].map(|side| {
+        let mut shown = from_fn(|side| {
             let transitions = &design.sides[side][sides.states[side]].transitions;
             random.pick(transitions).event.min(0)
         });
         if random.once_in(8) {
-            shown[random.below(2)] = random.byte() as i8;
+            shown[random.below(SIDES)] = random.byte() as i8;
         }
         script.push(shown);
         if tick(converter, &mut runner, shown).is_ok()

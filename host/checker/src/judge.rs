@@ -1,8 +1,8 @@
 //! The judge: is a converter matched to the sides, and do the rules hold.
 
-use crate::bytes::{read_converter_memory, read_design, Design, Record};
+use crate::bytes::{read_converter_memory, read_design, Design, Record, SIDES};
 use crate::ctl::Model;
-use crate::joined::{enabling, labels, steps, Enabling, Step};
+use crate::joined::{enabling, labels, steps, Step};
 use crate::refusal::{self, demand};
 
 /// Bytes of work that the judge demands for each record.
@@ -24,39 +24,31 @@ pub fn judge(design: &[u8], converter: &[u8], work: &mut [u8]) -> Result<(), u8>
 
 /// Whether a converter is matched to the sides of a design.
 pub fn matched(design: &Design, converter: &[Record]) -> bool {
-    let starts = converter.first().is_some_and(|first| first.pair == [0, 0]);
+    let starts = converter.first().is_some_and(|first| first.states == [0; SIDES]);
     starts && converter.iter().all(|record| record_matched(design, converter, record))
 }
 
 /// Whether one record obeys what a converter may do.
 fn record_matched(design: &Design, converter: &[Record], record: &Record) -> bool {
-    let pair = record.pair.map(usize::from);
-    if (0..2).any(|side| pair[side] >= design.sides[side].len()) {
+    let joint = record.states.map(usize::from);
+    if (0..SIDES).any(|side| joint[side] >= design.sides[side].len()) {
         return false;
     }
-    let steps = steps(design, pair);
+    let steps = steps(design, joint);
     let enabled: Option<Vec<Step>> = record
         .links
         .iter()
         .map(|link| {
             let step = steps.iter().find(|step| step.events == link.side_events())?;
             let next = converter.get(usize::from(link.next))?;
-            (next.pair.map(usize::from) == step.to).then_some(*step)
+            (next.states.map(usize::from) == step.to).then_some(*step)
         })
         .collect();
     let Some(enabled) = enabled else {
         return false;
     };
     let twice = (1..enabled.len()).any(|at| enabled[..at].contains(&enabled[at]));
-    !twice
-        && match enabling(design, pair) {
-            Enabling::All => enabled.len() == steps.len(),
-            Enabling::SendAndTick(delayed) => {
-                let sending = enabled.iter().filter(|step| step.events[delayed] < 0).count();
-                enabled.len() == 2 && sending == 1
-            }
-            Enabling::Some => !enabled.is_empty(),
-        }
+    !twice && enabling(design, joint).allows(&enabled, steps.len())
 }
 
 /// The rules that don't hold at the start under a matched converter, by their
@@ -69,9 +61,9 @@ pub fn failing_rules(design: &Design, converter: &[Record]) -> Vec<usize> {
 }
 
 /// The sides under a matched converter. Its records are the states: each names
-/// the one pair of states in which the sides then are.
+/// the one joint state in which the sides then are.
 pub fn model(design: &Design, converter: &[Record]) -> Model {
-    let labels = converter.iter().map(|record| labels(design, record.pair.map(usize::from)));
+    let labels = converter.iter().map(|record| labels(design, record.states.map(usize::from)));
     let next = converter
         .iter()
         .map(|record| record.links.iter().map(|link| usize::from(link.next)).collect());

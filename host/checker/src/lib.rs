@@ -6,8 +6,8 @@
 //! two have in common is told in README.md.
 //!
 //! - [`bytes`]: designs, converter records and converter files.
-//! - [`joined`]: the two sides moving together, whose label a proposition is, and
-//!   what a converter may enable.
+//! - [`joined`]: the sides moving together, whose label a proposition is, and what a
+//!   converter may enable.
 //! - [`ctl`]: the states in which each formula holds.
 //! - [`judge`](mod@judge): is a converter matched, and does it keep the rules.
 //! - [`search`](mod@search): is there a converter at all, and if so, one of them.

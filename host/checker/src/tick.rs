@@ -1,6 +1,6 @@
 //! The running converter, the plain sides beside it, and what holds of every run.
 
-use crate::bytes::{read_record, record_count, Design, RECORD_BYTES};
+use crate::bytes::{read_record, record_count, Design, RECORD_BYTES, SIDES};
 use crate::refusal::{self, demand};
 
 /// What the host lends to a tick.
@@ -8,19 +8,19 @@ use crate::refusal::{self, demand};
 pub struct Runner {
     /// The number of the record in which the converter is.
     pub record: usize,
-    /// The two events last delivered.
-    pub delivered: [i8; 2],
+    /// The events last delivered, one to each side.
+    pub delivered: [i8; SIDES],
 }
 
 /// One tick: done, or 10, 11 or 17 with the runner unchanged.
-pub fn tick(converter: &[u8], runner: &mut Runner, shown: [i8; 2]) -> Result<(), u8> {
+pub fn tick(converter: &[u8], runner: &mut Runner, shown: [i8; SIDES]) -> Result<(), u8> {
     let records = record_count(converter)?;
     demand(runner.record < records, refusal::TICK)?;
     let record = read_record(&converter[RECORD_BYTES * runner.record..][..RECORD_BYTES], records)?;
     demand(shown.iter().all(|event| (-63..=0).contains(event)), refusal::TICK)?;
     let taken = record.links.iter().find(|link| {
         let events = link.side_events();
-        (0..2).all(|side| fits(shown[side], events[side]))
+        (0..SIDES).all(|side| fits(shown[side], events[side]))
     });
     let taken = taken.ok_or(refusal::TICK)?;
     *runner = Runner { record: usize::from(taken.next), delivered: taken.side_events() };
@@ -36,14 +36,14 @@ fn fits(shown: i8, event: i8) -> bool {
 #[derive(Clone, Copy, Debug, Default, PartialEq, Eq)]
 pub struct PlainSides {
     /// The state of each side.
-    pub states: [usize; 2],
+    pub states: [usize; SIDES],
 }
 
 impl PlainSides {
     /// Whether each side's table allows what the side shows: an event that its
     /// state sends, or 0 where its state has an event that isn't sent.
-    pub fn allow(&self, design: &Design, shown: [i8; 2]) -> bool {
-        (0..2).all(|side| {
+    pub fn allow(&self, design: &Design, shown: [i8; SIDES]) -> bool {
+        (0..SIDES).all(|side| {
             let state = &design.sides[side][self.states[side]];
             match shown[side] {
                 0 => state.transitions.iter().any(|t| t.event >= 0),
@@ -55,9 +55,9 @@ impl PlainSides {
     /// Moves each side to the target that its state has for the delivered
     /// event. Where one has no such event, that side's number is answered and
     /// nothing moves.
-    pub fn deliver(&mut self, design: &Design, delivered: [i8; 2]) -> Result<(), usize> {
+    pub fn deliver(&mut self, design: &Design, delivered: [i8; SIDES]) -> Result<(), usize> {
         let mut states = self.states;
-        for side in 0..2 {
+        for side in 0..SIDES {
             let state = &design.sides[side][self.states[side]];
             states[side] = state.target(delivered[side]).ok_or(side)?;
         }
@@ -78,7 +78,7 @@ pub struct Broken {
 /// The parts of the claim about a run.
 #[derive(Clone, Copy, Debug, PartialEq, Eq)]
 pub enum Part {
-    /// The answer isn't "done" exactly when both tables allow what is shown.
+    /// The answer isn't "done" exactly when all tables allow what is shown.
     Answer,
     /// A refused call changed the runner.
     Unchanged,
@@ -97,9 +97,9 @@ pub enum Part {
 pub fn watch(
     design: &Design,
     converter: &[u8],
-    delivered: [i8; 2],
-    script: &[[i8; 2]],
-    mut tick: impl FnMut(&[u8], &mut Runner, [i8; 2]) -> Result<(), u8>,
+    delivered: [i8; SIDES],
+    script: &[[i8; SIDES]],
+    mut tick: impl FnMut(&[u8], &mut Runner, [i8; SIDES]) -> Result<(), u8>,
 ) -> Result<usize, Broken> {
     let mut runner = Runner { record: 0, delivered };
     let mut sides = PlainSides::default();
@@ -112,7 +112,7 @@ pub fn watch(
         let allowed = sides.allow(design, shown);
         match answer {
             Ok(()) if allowed => {
-                let right = (0..2).all(|side| {
+                let right = (0..SIDES).all(|side| {
                     let event = runner.delivered[side];
                     event == shown[side] || (shown[side] == 0 && event >= 0)
                 });
@@ -137,8 +137,8 @@ pub fn watch(
 /// Whether the runner's record names the states of the plain sides.
 fn named(converter: &[u8], runner: &Runner, sides: &PlainSides) -> Result<(), Part> {
     let at = RECORD_BYTES * runner.record;
-    let names = converter.get(at..at + 2).map(|pair| [usize::from(pair[0]), usize::from(pair[1])]);
-    if names == Some(sides.states) {
+    let names = converter.get(at..at + SIDES);
+    if names.is_some_and(|names| names.iter().map(|&name| usize::from(name)).eq(sides.states)) {
         Ok(())
     } else {
         Err(Part::Names)

@@ -1,6 +1,8 @@
 //! The states in which formulas hold, against paths written out one by one.
 
-use checker::bytes::Formula;
+use std::array::from_fn;
+
+use checker::bytes::{Formula, SIDES};
 use checker::ctl::{Model, States};
 use checker::generate::{formulas, Random, Shape};
 use checker::joined::{holds, Labels};
@@ -60,7 +62,7 @@ fn random_models_against_paths() {
     for _ in 0..2_000 {
         let states = random.from_to(1, 5);
         let labels: Vec<Labels> =
-            (0..states).map(|_| [0, 1].map(|_| random.below(8) as u16)).collect();
+            (0..states).map(|_| from_fn(|_| random.below(8) as u16)).collect();
         let next: Vec<Vec<usize>> = (0..states)
             .map(|_| (0..random.from_to(1, 2)).map(|_| random.below(states)).collect())
             .collect();
@@ -139,8 +141,8 @@ fn until_holds_where_its_second_part_holds_at_once() {
 fn a_long_row_of_states() {
     // State n leads to n + 1, the last to itself; 0 holds in the last alone.
     let states = 65_536;
-    let mut labels = vec![[0, 0]; states];
-    labels[states - 1] = [1, 0];
+    let mut labels = vec![[0; SIDES]; states];
+    labels[states - 1][0] = 1;
     let next = (0..states).map(|state| vec![(state + 1).min(states - 1)]).collect();
     let formulas =
         [Formula::True, Formula::Proposition(0), Formula::Until(0, 1), Formula::Always(2)];

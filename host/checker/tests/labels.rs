@@ -4,10 +4,14 @@
 mod meanings;
 mod samples;
 
+use std::array::from_fn;
+
 use checker::brute::{try_all, Outcome};
-use checker::bytes::{converter_bytes, positions, read_design, Design, Formula};
+use checker::bytes::{
+    converter_bytes, positions, read_design, Design, Formula, SIDES, SIDE_LABELS,
+};
 use checker::generate::{matched_converter, ruled_design, Random, Shape};
-use checker::joined::{holds, Labels, Pair};
+use checker::joined::{holds, Joint, Labels};
 use checker::judge::failing_rules;
 use checker::none::no_converter;
 use checker::search::find;
@@ -18,9 +22,12 @@ use samples::{
 
 /// Label words with a single bit set, each with the proposition that names it.
 fn single_bits() -> Vec<(Labels, u8)> {
-    let kernel = (0..16).map(|bit| ([1 << bit, 0], bit));
-    let host = (0..16).map(|bit| ([0, 1 << bit], 16 + bit));
-    kernel.chain(host).collect()
+    let single = |side: usize, bit: usize| {
+        let mut labels = [0; SIDES];
+        labels[side] = 1 << bit;
+        (labels, (16 * side + bit) as u8)
+    };
+    (0..SIDES).flat_map(|side| (0..16).map(move |bit| single(side, bit))).collect()
 }
 
 #[test]
@@ -39,7 +46,7 @@ fn a_proposition_is_one_bit_of_one_side() {
 fn formulas_name_propositions_up_to_31() {
     for p in 0..=255 {
         for formula in [Formula::Proposition(p), Formula::NotProposition(p)] {
-            let sides = ticking([0, 0]);
+            let sides = ticking([0; SIDES]);
             let design = Design { sides, formulas: vec![formula], rules: vec![0] };
             let expected = if p < 32 { Ok(design.clone()) } else { Err(7) };
             assert_eq!(read_design(&design.to_bytes()), expected);
@@ -49,7 +56,7 @@ fn formulas_name_propositions_up_to_31() {
 
 #[test]
 fn every_way_to_decide_asks_the_same_side() {
-    let converter = [record([0, 0], &[([0, 0], 0)])];
+    let converter = [record([0; SIDES], &[([0; SIDES], 0)])];
     for (labels, named) in single_bits() {
         for p in 0..32 {
             for formula in [Formula::Proposition(p), Formula::NotProposition(p)] {
@@ -67,14 +74,14 @@ fn every_way_to_decide_asks_the_same_side() {
     }
 }
 
-/// Whether a proposition holds of a pair by the paper's Definition 2.
-fn holds_of_some_side(design: &Design, pair: Pair, p: u8) -> bool {
-    (0..2).any(|side| design.sides[side][pair[side]].label & (1 << (p % 16)) != 0)
+/// Whether a proposition holds of a joint state by the paper's Definition 2.
+fn holds_of_some_side(design: &Design, joint: Joint, p: u8) -> bool {
+    (0..SIDES).any(|side| design.sides[side][joint[side]].label & (1 << (p % 16)) != 0)
 }
 
 #[test]
 fn some_side_has_every_label_asked_for() {
-    // 3 and 19 are asked at the start, AX 19 and AX 3 at the one pair that comes next.
+    // 3 and 19 are asked at the start, AX 19 and AX 3 at the one joint state that comes next.
     for p in [3, 19] {
         assert!(holds_of_some_side(&lock_and_menu(), [0, 0], p));
         assert!(holds_of_some_side(&lock_and_menu(), [1, 1], p));
@@ -93,24 +100,27 @@ fn some_side_has_every_label_asked_for() {
 fn definition_two_is_what_is_compared_with() {
     let mut random = Random::new(31);
     for _ in 0..2_000 {
-        let sides = ticking([0, 1].map(|_| random.bits() as u16));
+        let sides = ticking(from_fn(|_| random.bits() as u16));
         let p = random.below(32) as u8;
         let formulas = vec![Formula::Proposition(p), Formula::NotProposition(p)];
         let design = Design { sides, formulas, rules: vec![0, 1] };
-        let converter = [record([0, 0], &[([0, 0], 0)])];
-        let failing = if holds_of_some_side(&design, [0, 0], p) { 1 } else { 0 };
+        let converter = [record([0; SIDES], &[([0; SIDES], 0)])];
+        let failing = if holds_of_some_side(&design, [0; SIDES], p) { 1 } else { 0 };
         assert_eq!(failing_rules(&of_some_side(&design), &converter), [failing]);
     }
 }
 
-/// The design with the host's labels moved to the upper bits of its words, where the
-/// kernel has none.
+/// The design with the labels of each side moved to bits of its words where no other
+/// side has any. In the designs here each side uses its lowest bits alone.
 fn apart(design: &Design) -> Design {
+    let moved = |side: usize| SIDE_LABELS / SIDES * side;
     let mut apart = design.clone();
-    apart.sides[1].iter_mut().for_each(|state| state.label <<= 8);
+    for (side, states) in apart.sides.iter_mut().enumerate() {
+        states.iter_mut().for_each(|state| state.label <<= moved(side));
+    }
     for formula in &mut apart.formulas {
-        if let Formula::Proposition(p @ 16..) | Formula::NotProposition(p @ 16..) = formula {
-            *p += 8;
+        if let Formula::Proposition(p) | Formula::NotProposition(p) = formula {
+            *p += moved(usize::from(*p) / SIDE_LABELS) as u8;
         }
     }
     apart
@@ -152,6 +162,7 @@ fn verdicts_that_definition_two_has_otherwise() {
         judgements.count(&design, |design| failing_rules(design, &converter).is_empty());
     }
     for verdicts in [searches, judgements] {
+        println!("{verdicts:?}");
         assert!(verdicts.kept > 5_000 && verdicts.broken > 5_000, "{verdicts:?}");
         assert!(verdicts.others > 3_000, "{verdicts:?}");
     }

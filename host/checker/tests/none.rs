@@ -54,6 +54,14 @@ struct Agreed {
     kinds: HashSet<Discriminant<Formula>>,
 }
 
+impl Agreed {
+    /// Shows what was counted.
+    fn show(&self) {
+        let Agreed { found, none, none_in_the_long_run, .. } = self;
+        println!("found {found}, none {none}, in the long run {none_in_the_long_run}");
+    }
+}
+
 /// Compares tableau and search on so many designs.
 fn agreed(designs: usize, mut made: impl FnMut() -> Design) -> Agreed {
     let mut agreed = Agreed::default();
@@ -92,6 +100,7 @@ fn against_the_search_on_any_rules() {
     let tiny = agreed(5_000, || ruled_design(&mut random, &Shape::TINY));
     let small = agreed(5_000, || ruled_design(&mut random, &Shape::SMALL));
     for agreed in [tiny, small] {
+        agreed.show();
         assert!(agreed.found > 1_500 && agreed.none > 1_500, "{agreed:?}");
         assert!(agreed.none_in_the_long_run > 50, "{agreed:?}");
         assert_eq!(agreed.kinds.len(), 9, "{agreed:?}");
@@ -105,6 +114,7 @@ fn against_the_search_on_rules_that_want_progress() {
     let shape = Shape { states: 3, ..Shape::SMALL };
     let small = agreed(5_000, || progress_design(&mut random, &shape));
     for agreed in [tiny, small] {
+        agreed.show();
         assert!(agreed.found > 1_000 && agreed.none > 1_000, "{agreed:?}");
         assert!(agreed.none_in_the_long_run > 700, "{agreed:?}");
     }
@@ -127,6 +137,7 @@ fn against_every_small_converter() {
             _ => {}
         }
     }
+    println!("found {found}, none {none}");
     assert!(found > 1_000 && none > 800, "{found} {none}");
 }
 

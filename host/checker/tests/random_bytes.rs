@@ -6,7 +6,7 @@ use std::collections::{BTreeMap, BTreeSet};
 
 use checker::bytes::{
     converter_bytes, read_blocks, read_converter_memory, read_design, write_blocks, Formula,
-    StateKind,
+    StateKind, PROPOSITIONS, SIDES,
 };
 use checker::generate::{
     any_converter, any_design, block_file, damage, damaged_converter, design, loose_converter,
@@ -26,8 +26,8 @@ fn sound_designs_are_read_as_written() {
     for round in 0..3_000 {
         let made = design(&mut random, &SHAPES[round % 3]);
         assert_eq!(read_design(&made.to_bytes()), Ok(made.clone()));
-        let start = |side: usize| made.sides[side][0].kind(0).unwrap();
-        *mixes.entry(format!("{:?} {:?}", start(0), start(1))).or_default() += 1;
+        let start = made.sides.each_ref().map(|side| side[0].kind(0).unwrap());
+        *mixes.entry(format!("{start:?}")).or_default() += 1;
         for formula in &made.formulas {
             let name = format!("{formula:?}");
             *kinds.entry(name.split('(').next().unwrap().to_string()).or_default() += 1;
@@ -36,12 +36,12 @@ fn sound_designs_are_read_as_written() {
             }
         }
     }
-    // Every mix of state kinds, every kind of formula and every label of both sides comes.
-    assert_eq!(mixes.len(), 9, "{mixes:?}");
+    // Every mix of state kinds, every kind of formula and every label of every side comes.
+    assert_eq!(mixes.len(), 3_usize.pow(SIDES as u32), "{mixes:?}");
     assert!(mixes.values().all(|&times| times > 100), "{mixes:?}");
     assert_eq!(kinds.len(), 9, "{kinds:?}");
     assert!(kinds.values().all(|&times| times > 100), "{kinds:?}");
-    assert_eq!(named, (0..32).collect());
+    assert_eq!(named, (0..PROPOSITIONS as u8).collect());
 }
 
 #[test]
@@ -79,11 +79,13 @@ fn damaged_propositions() {
         }
         for at in named_propositions(&sound).into_iter().filter(|&at| bytes[at] != sound[at]) {
             *named.entry(bytes[at]).or_default() += 1;
-            moved += usize::from(bytes[at] == sound[at] ^ 16);
+            moved += usize::from(
+                usize::from(bytes[at]) < PROPOSITIONS && bytes[at] % 16 == sound[at] % 16,
+            );
         }
     }
     // The first and the last label of each side, and of sides that there aren't; the same
-    // label of the other side.
+    // label of another side.
     let come = [0, 15, 16, 31, 32, 47, 48, 63, 255];
     assert!(come.iter().all(|p| named.get(p).is_some_and(|&n| n > 20)), "{named:?}");
     assert!(moved > 50, "{moved}");
@@ -220,12 +222,12 @@ fn kept_formulas_are_counted_once() {
     let mut design = samples::handshake(formulas, vec![]);
     // Operands of AX: 0, 1, 5. Until: 4, 8. Always: 5.
     assert_eq!(design.kept(), [0, 1, 4, 5, 8].into());
-    // 2 × 2 pairs, 2 to the power of 5, two kind 8.
+    // 2 × 2 joint states, 2 to the power of 5, two kind 8.
     assert_eq!(checker::bytes::positions(&design), 256);
     design.rules = vec![7, 7, 0, 8];
     assert_eq!(design.kept(), [0, 1, 4, 5, 7, 8].into());
     assert_eq!(checker::bytes::positions(&design), 512);
-    // The most there can be: 256 pairs and 64 kept kind 8 formulas.
+    // The most there can be: 256 joint states and 64 kept kind 8 formulas.
     let side = vec![samples::state(&[], &[(0, 0)]); 16];
     design.sides = [side.clone(), side];
     design.formulas = vec![Formula::Until(0, 0); 64];

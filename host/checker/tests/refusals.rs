@@ -8,7 +8,7 @@ use std::collections::BTreeSet;
 
 use checker::bytes::{
     converter_bytes, read_blocks, read_converter_memory, read_design, seal, write_blocks, Formula,
-    Record,
+    Record, SIDES,
 };
 use checker::generate::{loose_converter, Random};
 use checker::tick::Runner;
@@ -66,7 +66,7 @@ fn design_faults() -> Vec<Fault> {
     for (block, count) in [(0, 0), (0, 17), (1, 0), (1, 17), (2, 65), (3, 17), (2, 255), (0, 255)] {
         faults.push(fault(4, &[(512 * block + 1, count)]));
     }
-    for side in 0..2 {
+    for side in 0..SIDES {
         for state in 0..2 {
             let at = state_at(side, state);
             faults.push(fault(5, &[(at + 2, 0)]));
@@ -89,7 +89,7 @@ fn design_faults() -> Vec<Fault> {
     // t0 ticks and sends, but its tick is made to lead away; t0 reads and sends.
     faults.push(fault(6, &[(state_at(1, 0) + 6, 255), (state_at(1, 0) + 5, 1)]));
     faults.push(fault(6, &[(state_at(1, 0) + 4, 2), (state_at(1, 0) + 6, 255)]));
-    // t1 sends a second event, a third transition beside a delayed pair.
+    // t1 sends a second event, a third transition beside those of a delayed state.
     let third = state_at(1, 1);
     faults.push(fault(6, &[(third + 2, 3), (third + 6, 0xFE), (third + 8, 0xFD)]));
 
@@ -230,7 +230,7 @@ fn record_faults() -> Vec<Vec<(usize, u8)>> {
         vec![(4, 64)],
         vec![(5, 192)],
         vec![(9, 128)],
-        // The second event pair is made the first.
+        // The second place's events are made those of the first.
         vec![(9, 255)],
         // The next record isn't there.
         vec![(6, 30)],
@@ -434,7 +434,7 @@ fn design_with(wrong: &BTreeSet<u8>) -> Vec<u8> {
     let as_printed = wrong.contains(&15) || wrong.contains(&16);
     let (mut formulas, rules) = four_rules(as_printed);
     if wrong.contains(&9) {
-        // Fifteen kept formulas and four pairs of states.
+        // Fifteen kept formulas and four joint states.
         formulas.extend([Formula::Always(0); 7]);
     }
     let mut bytes = handshake(formulas, rules).to_bytes();
@@ -520,7 +520,7 @@ fn order_of_the_writer() {
 }
 
 /// Ticks, and holds the runner against the specification where the tick is refused.
-fn ticked(converter: &[u8], record: usize, shown: [i8; 2]) -> Result<Runner, u8> {
+fn ticked(converter: &[u8], record: usize, shown: [i8; SIDES]) -> Result<Runner, u8> {
     let start = Runner { record, delivered: [9, -9] };
     let mut runner = start;
     let answer = checker::tick(converter, &mut runner, shown);
@@ -591,14 +591,14 @@ fn unmatched(records: &[Record]) -> bool {
 #[test]
 fn what_a_converter_may_do() {
     assert!(!unmatched(&figure_five()));
-    // Record 0 names another pair; a pair that the sides don't have.
+    // Record 0 names another joint state; one that the sides don't have.
     let mut wrong = figure_five();
     wrong.swap(0, 2);
     assert!(unmatched(&wrong));
     let mut wrong = figure_five();
     wrong.push(record([2, 0], &[([0, 0], 3)]));
     assert!(unmatched(&wrong));
-    // A next record that names another pair; an event that isn't a dual.
+    // A next record that names another joint state; an event that isn't a dual.
     let mut wrong = figure_five();
     wrong[0].links[1].next = 2;
     assert!(unmatched(&wrong));
@@ -614,20 +614,20 @@ fn what_a_converter_may_do() {
     assert!(!unmatched(&wrong));
     wrong[0] = record([0, 0], &[([1, 0], 1), ([1, -1], 3)]);
     assert!(unmatched(&wrong));
-    // A record that nothing leads to obeys too, and its pair may be any.
+    // A record that nothing leads to obeys too, and may name any joint state.
     let mut wrong = figure_five();
     wrong.push(record([1, 1], &[([0, -2], 1)]));
     assert!(unmatched(&wrong));
 }
 
 #[test]
-fn where_neither_side_is_input_all_is_enabled() {
+fn where_no_side_is_input_all_is_enabled() {
     let delayed = vec![samples::state(&[], &[(0, 0), (-1, 0)])];
     let output_only = vec![samples::state(&[], &[(-2, 0)])];
     let mut design = handshake(vec![], vec![]);
     design.sides = [delayed.clone(), delayed];
     let all = [([0, 0], 0), ([1, 0], 0), ([0, 1], 0), ([1, 1], 0)];
-    let matched = |design: &checker::bytes::Design, links: &[([i8; 2], u16)]| {
+    let matched = |design: &checker::bytes::Design, links: &[([i8; SIDES], u16)]| {
         samples::judged_well(design, &converter_bytes(&[record([0, 0], links)]))
     };
     assert_eq!(matched(&design, &all), Ok(()));

@@ -2,7 +2,9 @@
 
 mod samples;
 
-use checker::bytes::{check, converter_bytes, positions, read_design, Design, Formula, Record};
+use checker::bytes::{
+    check, converter_bytes, positions, read_design, Design, Formula, Record, SIDES,
+};
 use checker::judge::failing_rules;
 use checker::tick::Runner;
 use samples::{
@@ -86,7 +88,7 @@ fn two_states_ticking_in_turn() {
 }
 
 /// A converter for the two inputs that enables some of them.
-fn enabling(inputs: &[([i8; 2], u16)]) -> Vec<Record> {
+fn enabling(inputs: &[([i8; SIDES], u16)]) -> Vec<Record> {
     vec![record([0, 0], inputs), record([0, 1], &[([0, 0], 1)]), record([0, 2], &[([0, 0], 2)])]
 }
 

@@ -2,7 +2,9 @@
 
 mod samples;
 
-use checker::bytes::{converter_bytes, positions, Design};
+use std::array::from_fn;
+
+use checker::bytes::{converter_bytes, positions, Design, SIDES};
 use checker::generate::{design, matched_converter, ruled_design, script, Random, Shape};
 use checker::search::find;
 use checker::tick::{tick, watch, Broken, Part, PlainSides, Runner};
@@ -23,7 +25,7 @@ fn runs_of_converters_found() {
         };
         let converter = converter_bytes(&found);
         let script = script(&mut random, &design, &converter, 60);
-        let delivered = [random.byte() as i8, random.byte() as i8];
+        let delivered = from_fn(|_| random.byte() as i8);
         let ticks = watch(&design, &converter, delivered, &script, tick).unwrap();
         runs += 1;
         done += ticks;
@@ -42,7 +44,7 @@ fn runs_of_any_matched_converter() {
         let spare = random.below(10);
         let converter = converter_bytes(&matched_converter(&mut random, &design, spare));
         let script = script(&mut random, &design, &converter, 60);
-        done += watch(&design, &converter, [0, 0], &script, tick).unwrap();
+        done += watch(&design, &converter, [0; SIDES], &script, tick).unwrap();
     }
     assert!(done > 10_000, "{done}");
 }
@@ -92,10 +94,10 @@ fn what_the_plain_sides_allow() {
 
 /// Runs F with a tick that isn't right.
 fn watch_wrong(
-    script: &[[i8; 2]],
-    wrong: impl FnMut(&[u8], &mut Runner, [i8; 2]) -> Result<(), u8>,
+    script: &[[i8; SIDES]],
+    wrong: impl FnMut(&[u8], &mut Runner, [i8; SIDES]) -> Result<(), u8>,
 ) -> Result<usize, Broken> {
-    watch(&handshake(vec![], vec![]), &converter_bytes(&figure_five()), [0, 0], script, wrong)
+    watch(&handshake(vec![], vec![]), &converter_bytes(&figure_five()), [0; SIDES], script, wrong)
 }
 
 #[test]
@@ -131,8 +133,8 @@ fn each_part_of_the_claim_can_break() {
     };
     assert_eq!(watch_wrong(&[[-2, 0]], changing), Err(Broken { call: 0, part: Part::Unchanged }));
 
-    let delivering = |events: [i8; 2], record: usize| {
-        move |_: &[u8], runner: &mut Runner, _: [i8; 2]| {
+    let delivering = |events: [i8; SIDES], record: usize| {
+        move |_: &[u8], runner: &mut Runner, _: [i8; SIDES]| {
             *runner = Runner { record, delivered: events };
             Ok(())
         }

@@ -94,7 +94,7 @@ fn write_converter(out: &mut String, example: &Example, records: &[Record]) -> s
     )?;
     writeln!(out, "| record | names | kernel | host | next |\n|---|---|---|---|---|")?;
     for (number, record) in records.iter().enumerate() {
-        let name = |side: usize| &example.sides[side].states[usize::from(record.pair[side])].name;
+        let name = |side: usize| &example.sides[side].states[usize::from(record.states[side])].name;
         for (place, link) in record.links.iter().enumerate() {
             let [kernel, host] = link.side_events().map(|event| does(example.named_event(event)));
             let (shown, names) = match place {

@@ -61,7 +61,7 @@ fn without_rules_each_pair_has_one_record() {
         let mut made = ruled_design(&mut random, &Shape::SMALL);
         (made.formulas, made.rules) = (vec![], vec![]);
         let converter = found(&made).expect("with no rules a converter exists");
-        let mut pairs: Vec<_> = converter.iter().map(|record| record.pair).collect();
+        let mut pairs: Vec<_> = converter.iter().map(|record| record.states).collect();
         pairs.sort_unstable();
         pairs.dedup();
         assert_eq!(pairs.len(), converter.len());
@@ -131,7 +131,7 @@ fn shrunk(made: &Design, mut converter: Vec<Record>) -> Vec<Record> {
     'again: loop {
         for kept in 0..converter.len() {
             for gone in (0..converter.len()).filter(|&gone| gone != kept) {
-                if converter[kept].pair == converter[gone].pair {
+                if converter[kept].states == converter[gone].states {
                     let smaller = merged(&converter, kept, gone);
                     if failing_rules(made, &smaller).is_empty() {
                         converter = smaller;

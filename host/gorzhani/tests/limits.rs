@@ -71,7 +71,7 @@ fn long_way(records: usize) -> (Design, Vec<Record>) {
         let event = if own + 2 == records { -1 } else { 0 };
         let next = ((own + 1) % records) as u16;
         let links = vec![Link { events: [event, 0], next }];
-        Record { pair: [u8::from(own + 1 == records), 0], links }
+        Record { states: [u8::from(own + 1 == records), 0], links }
     };
     (design, (0..records).map(record).collect())
 }
@@ -88,7 +88,7 @@ fn a_long_way_to_what_an_until_waits_for() {
         assert_eq!(judge_agrees(&bytes, &converter_bytes(&stuck), CELL * records + 5), 15);
         // The last record names a state that there isn't.
         let mut unmatched = converter;
-        unmatched[records - 1].pair = [2, 0];
+        unmatched[records - 1].states = [2, 0];
         assert_eq!(judge_agrees(&bytes, &converter_bytes(&unmatched), CELL * records), 14);
     }
 }

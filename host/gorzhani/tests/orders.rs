@@ -25,14 +25,14 @@ fn side(each: u8) -> Vec<State> {
 fn converter(random: &mut Random, next: &[Vec<usize>], holding: &[[u8; 2]]) -> Vec<Record> {
     let mut number: Vec<usize> = (0..next.len()).collect();
     random.shuffle(&mut number[1..]);
-    let mut records = vec![Record { pair: [0, 0], links: vec![] }; next.len()];
+    let mut records = vec![Record { states: [0, 0], links: vec![] }; next.len()];
     for (place, targets) in next.iter().enumerate() {
         let link = |(at, &to): (usize, &usize)| Link {
             events: [-(4 * holding[to][0] as i8 + at as i8), -(holding[to][1] as i8)],
             next: number[to] as u16,
         };
         let links = targets.iter().enumerate().map(link).collect();
-        records[number[place]] = Record { pair: holding[place], links };
+        records[number[place]] = Record { states: holding[place], links };
     }
     records
 }

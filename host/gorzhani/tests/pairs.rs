@@ -12,7 +12,7 @@ mod kinds;
 use checker::bytes::{converter_bytes, read_converter_memory, Design, Formula};
 use common::{found, judge_agrees, search_agrees};
 use gorzhani::{CELL, RECORD};
-use kinds::{converters, designs, enabled, links, record_of, COUNTS, PAIRS};
+use kinds::{converters, designs, enabled, joint_states, links, record_of, COUNTS};
 
 const INPUT: usize = 0;
 const DELAYED: usize = 2;
@@ -74,7 +74,7 @@ fn every_choice_at_the_start() {
 /// No path comes to these pairs, and the same is asked of their records.
 #[test]
 fn every_choice_at_the_other_pairs() {
-    for pair in &PAIRS[1..] {
+    for pair in &joint_states()[1..] {
         assert_eq!(judged(*pair), COUNTS, "{pair:?}");
     }
 }

@@ -55,7 +55,7 @@ fn figure_five_unmatched() {
     assert_eq!(judged(&mended, &unreached), 0);
     unreached[3].links.remove(1);
     assert_eq!(judged(&mended, &unreached), 14);
-    unreached[3].pair = [2, 1];
+    unreached[3].states = [2, 1];
     assert_eq!(judged(&mended, &unreached), 14);
 }
 

@@ -1,23 +1,17 @@
 -- `take_first` meets its contract. The invariant: the first transition that fits is the first of those behind the k that were tried.
-use mathlib.Core.Path.{_≡_, refl, sym, ap, subst, _∙_}
-use mathlib.Core.Bool.{true}
-use Prim.Native.Nat.{ℕ, _-_, _≤_, _<_}
+use mathlib.Core.Path.{_≡_, refl, sym, ap, _∙_}
+use Prim.Native.Nat.{_-_, _≤_, _<_}
 use native.Mathlib.Omega.{arith}
 use borrow.Author.Needs.{needs}
-use borrow.Author.Tests.{le-leb}
-use lib.IntN.{natAbs}
 use lib.ListN.{length, getD, drop}
-use Rattle.model.specs.Events.{tick, InRange}
-use Rattle.model.specs.Converters.{Node, node, edge, side-events}
-use Rattle.model.specs.Judged.{all}
+use Rattle.model.specs.Events.{tick}
+use Rattle.model.specs.Converters.{Edge, Node, node, edge, side-events}
 use Rattle.model.specs.Runs.{all-fit, first-fit}
-use Rattle.layout.specs.Sizes.{last-event}
+use Rattle.layout.specs.Sizes.{place-count}
 use Rattle.layout.specs.Converters.{records, converter}
-use Rattle.layout.specs.Tests.{in-range}
-use Rattle.refusals.proofs.Accepted.{right-well-formed}
 use Rattle.layout.proofs.Nodes.{WellFormedNode}
 use Rattle.layout.proofs.SignedBytes.{read-back}
-use Rattle.layout.proofs.Tables.{all-true}
+use Rattle.refusals.proofs.Accepted.{events-length, right-well-formed}
 use Rattle.runner.specs.declared.Answer.the-variants.{Done}
 use Rattle.runner.specs.Ticks.{taken}
 use Rattle.runner.proofs.FirstFit.{fits-here, fits-later, fits-nowhere}
@@ -26,7 +20,7 @@ use Rattle.runner.proofs.take_first.Tie as tie
 
 abbrev Inv-loop : tie.InvT-loop
 Inv-loop s c runner shown n k₀ k =
-    (k ≤ n) × (first-fit shown (node (converter s) c .edges) ≡ first-fit shown (drop k (node (converter s) c .edges)))
+    (first-fit shown (node (converter s) c .edges) ≡ first-fit shown (drop k (node (converter s) c .edges))) × (k ≤ n)
 
 abbrev μ-loop : tie.MeasureT-loop
 μ-loop s c runner shown n k₀ k = n - k
@@ -38,44 +32,51 @@ here s = node (converter (s .args .s .now)) (s .args .c)
 formed : (s : tie.Start Inv-loop μ-loop) → WellFormedNode (records (s .args .s .now)) (here s)
 formed s = right-well-formed (s .args .s .now) (s .args .c) (s .pre .0) (s .pre .1)
 
--- of transition k, which is there
-there : (c : tie.In-loop Inv-loop μ-loop) → c .before .loop .k < length (here (c .before .before .before .before) .edges)
+-- ---- in the loop
+-- where the walk to it began, and the transition that is tried
+abbrev start : tie.In-loop Inv-loop μ-loop → tie.Start Inv-loop μ-loop
+start c = c .before .before .before .before
+
+abbrev tried : tie.In-loop Inv-loop μ-loop → Edge
+tried c = edge (here (start c)) (c .before .loop .k)
+
+-- it is there
+there : (c : tie.In-loop Inv-loop μ-loop) → c .before .loop .k < length (here (start c) .edges)
 there c = omega (arith, c .before .before .edge-count .ensures)
 
--- its events are in range
-ranged : (c : tie.After-edge-at Inv-loop μ-loop) → all in-range (c .edge-at .result .events) ≡ true
-ranged c =
-    let s = c .before .before .before .before .before in
-    let k = c .before .before .loop .k in
-    all-true in-range tick (c .edge-at .result .events) (λ i h.
-    le-leb (natAbs (getD (c .edge-at .result .events) i tick)) last-event
-    (subst (λ e. (j : ℕ) → j < length (e .events) → InRange (getD (e .events) j tick)) (sym (c .edge-at .ensures)) (formed s .in-range-at k (there (c .before))) i h))
-
--- the side events that are made of them
-made : (c : tie.After-side-events Inv-loop μ-loop) → c .side-events .result ≡ side-events (edge (here (c .before .before .before .before .before .before)) (c .before .before .before .loop .k))
-made c = c .side-events .ensures ∙ ap (λ e. side-events e) (c .before .edge-at .ensures)
-
--- and whether they fit
-asked : (c : tie.After-fits-events Inv-loop μ-loop)
-    → c .fits-events .result ≡ all-fit (c .before .before .before .before .before .before .before .args .shown) (side-events (edge (here (c .before .before .before .before .before .before .before)) (c .before .before .before .before .loop .k)))
-asked c = c .fits-events .ensures ∙ ap (all-fit (c .before .before .before .before .before .before .before .args .shown)) (made (c .before))
+placed : (c : tie.In-loop Inv-loop μ-loop) → c .before .loop .k < place-count
+placed c = omega (arith, there c, formed (start c) .at-most-eight)
 
 edge-count-requires : tie.Need-edge-count-requires Inv-loop μ-loop
 edge-count-requires c κs = search needs
 
 loop-holds : tie.Need-loop-holds Inv-loop μ-loop
-loop-holds c = (search needs, refl)
+loop-holds c = (refl, search needs)
 
 edge-at-requires : tie.Need-edge-at-requires Inv-loop μ-loop
-edge-at-requires c κs =
-    let s = c .before .before .before .before in
-    (s .pre .0, there c, omega (arith, there c, formed s .at-most-eight))
+edge-at-requires c κs = (start c .pre .0, there c, placed c)
 
-side-events-requires : tie.Need-side-events-requires Inv-loop μ-loop
-side-events-requires c κs = ranged c
+duals-requires : tie.Need-duals-requires Inv-loop μ-loop
+duals-requires c κs i h =
+    let l = c .before .before in
+    let s = start l in
+    let k = l .before .loop .k in
+    let one-each = events-length (s .args .s .now) (s .args .c) k (s .pre .0) (there l) (placed l) in
+    rw (ap (λ (x : Edge). x .events) (c .before .edge-at .ensures)) (formed s .in-range-at k (there l) i (omega arith))
+
+-- the side events that are made of its events
+made : (c : tie.After-duals Inv-loop μ-loop) → c .duals .result ≡ side-events (tried (c .before .before .before))
+made c = c .duals .ensures ∙ ap side-events (c .before .before .edge-at .ensures)
 
 fits-events-requires : tie.Need-fits-events-requires Inv-loop μ-loop
 fits-events-requires c κs = search needs
+
+-- and whether they fit
+abbrev inside : tie.After-fits-events Inv-loop μ-loop → tie.In-loop Inv-loop μ-loop
+inside c = c .before .before .before .before
+
+asked : (c : tie.After-fits-events Inv-loop μ-loop) → c .fits-events .result ≡ all-fit (start (inside c) .args .shown) (side-events (tried (inside c)))
+asked c = c .fits-events .ensures ∙ ap (all-fit (start (inside c) .args .shown)) (made (c .before))
 
 array-copy-out-moved : tie.Need-array-copy-out-moved Inv-loop μ-loop
 array-copy-out-moved c = search needs
@@ -89,16 +90,17 @@ moved-requires c κs = search needs
 returns : tie.Need-returns Inv-loop μ-loop
 unfolding taken
 returns c =
-    let d = c .before in
-    let f = d .before .before .before in
-    let s = f .before .before .before .before .before .before .before in
-    let l = f .before .before .before .before .loop in
-    let p = l .inv .1 ∙ fits-here (s .args .shown) (here s .edges) (l .k) (there (f .before .before .before)) (sym (asked f) ∙ d .before .before .if1 .taken) in
-    let q = f .before .side-events .result in
+    let last = c .before in
+    let test = last .before .before in
+    let f = test .before in
+    let s = start (inside f) in
+    let l = inside f .before .loop in
+    let p = l .inv .0 ∙ fits-here (s .args .shown) (here s .edges) (l .k) (there (inside f)) (sym (asked f) ∙ test .if1 .taken) in
+    let q = f .before .duals .result in
     let m = made (f .before) in
-    let next = ap (λ x. x .next) (f .before .before .edge-at .ensures) in
-    let first = read-back (getD q 0 tick) (d .before .moved-arg .given) ∙ ap (λ es. getD es 0 tick) m in
-    let second = read-back (getD q 1 tick) (d .moved-arg2 .given) ∙ ap (λ es. getD es 1 tick) m in
+    let next = ap (λ x. x .next) (f .before .before .before .edge-at .ensures) in
+    let first = read-back (getD q 0 tick) (last .before .moved-arg .given) ∙ ap (λ es. getD es 0 tick) m in
+    let second = read-back (getD q 1 tick) (last .moved-arg2 .given) ∙ ap (λ es. getD es 1 tick) m in
     ap (λ r. record { answer = Done; runner = r }) (c .moved .ensures)
     ∙ (λ i. record { answer = Done; runner = record { «record» = next i; first = first i; second = second i } })
     ∙ sym (ap (taken (s .args .runner)) p)
@@ -112,11 +114,9 @@ loop-less c = search needs
 loop-again : tie.Need-loop-again Inv-loop μ-loop
 loop-again c =
     let f = c .before in
-    let s = f .before .before .before .before .before .before .before in
-    let l = f .before .before .before .before .loop in (
-      search needs,
-      l .inv .1 ∙ fits-later (s .args .shown) (here s .edges) (l .k) (there (f .before .before .before)) (sym (asked f) ∙ c .if1 .left),
-    )
+    let s = start (inside f) in
+    let l = inside f .before .loop in
+    (l .inv .0 ∙ fits-later (s .args .shown) (here s .edges) (l .k) (there (inside f)) (sym (asked f) ∙ c .if1 .left), search needs)
 
 returns-2 : tie.Need-returns-2 Inv-loop μ-loop
 unfolding taken
@@ -124,7 +124,7 @@ returns-2 c =
     let s = c .before .before .before .before in
     let l = c .before .loop in
     let e : l .k ≡ length (here s .edges) = omega (arith, c .before .before .edge-count .ensures) in
-    sym (ap (taken (s .args .runner)) (l .inv .1 ∙ fits-nowhere (s .args .shown) (here s .edges) (l .k) e))
+    sym (ap (taken (s .args .runner)) (l .inv .0 ∙ fits-nowhere (s .args .shown) (here s .edges) (l .k) e))
 
 pub take-first-spec : {M : Type 1} → statement M
 take-first-spec =
@@ -135,7 +135,7 @@ take-first-spec =
     edge-count-requires
     loop-holds
     edge-at-requires
-    side-events-requires
+    duals-requires
     fits-events-requires
     array-copy-out-moved
     array-copy-out-moved-2

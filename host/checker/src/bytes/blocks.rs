@@ -1,4 +1,4 @@
-//! Converter files: blocks of kind 5 with up to fourteen records each.
+//! Converter files: blocks of kind 5, full of records but perhaps for the last.
 
 use super::{
     blank, headed, read_converter_memory, read_record, seal, sealed, word, BLOCK_BYTES,

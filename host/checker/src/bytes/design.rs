@@ -1,12 +1,20 @@
-//! Designs: two sides, formulas and rules in four blocks.
+//! Designs: the sides, the formulas and the rules, in blocks.
 
 use std::collections::BTreeSet;
+use std::ops::RangeInclusive;
 
 use super::{
     headed, in_range, seal, sealed, word, BLOCK_BYTES, CHECKED_BYTES, DESIGN_BYTES, FORMULA_BYTES,
     HEADER_BYTES, MOST_STATES, PLACES, PROPOSITIONS, SIDES, STATE_BYTES,
 };
 use crate::refusal::{self, demand};
+
+/// The kinds of the sides' blocks, in their order.
+const SIDE_KINDS: [u8; SIDES] = [1, 2];
+/// The kind of the block that holds the formulas, behind those of the sides.
+const FORMULA_KIND: u8 = 3;
+/// The kind of the block that holds the rules, behind that of the formulas.
+const RULE_KIND: u8 = 4;
 
 /// One transition of a side.
 #[derive(Clone, Copy, Debug, PartialEq, Eq, PartialOrd, Ord)]
@@ -79,10 +87,10 @@ pub enum Formula {
     Always(usize),
 }
 
-/// A design: two sides, the formulas, and the numbers of those that are rules.
+/// A design: the sides, the formulas, and the numbers of those that are rules.
 #[derive(Clone, Debug, PartialEq, Eq)]
 pub struct Design {
-    /// The kernel's states, then the host's.
+    /// The states of each side: the kernel's, then the host's.
     pub sides: [Vec<State>; SIDES],
     /// The formulas by number.
     pub formulas: Vec<Formula>,
@@ -112,13 +120,13 @@ impl Design {
             .collect()
     }
 
-    /// The design as four sealed blocks.
+    /// The design as sealed blocks.
     ///
     /// Nothing is checked beyond what the places hold, so that designs which a
     /// reader must refuse can be written too.
     pub fn to_bytes(&self) -> Vec<u8> {
         let mut bytes = Vec::with_capacity(DESIGN_BYTES);
-        for (kind, states) in (1..).zip(&self.sides) {
+        for (kind, states) in SIDE_KINDS.into_iter().zip(&self.sides) {
             bytes.extend(state_block(kind, states));
         }
         bytes.extend(formula_block(&self.formulas));
@@ -140,23 +148,26 @@ pub fn read_design(bytes: &[u8]) -> Result<Design, u8> {
     demand(bytes.len() == DESIGN_BYTES, refusal::LENGTH)?;
     let blocks: Vec<&[u8]> = bytes.chunks(BLOCK_BYTES).collect();
     demand(blocks.iter().all(|block| sealed(block)), refusal::CHECK)?;
-    let headers = (1..).zip(&blocks).all(|(kind, block)| block[0] == kind && word(block, 2) == 0);
+    let kinds = SIDE_KINDS.into_iter().chain([FORMULA_KIND, RULE_KIND]);
+    let headers = kinds.clone().zip(&blocks).all(|(kind, block)| headed_right(kind, block));
     demand(headers, refusal::HEADER)?;
-    let limits = [1..=16, 1..=16, 0..=64, 0..=16];
-    let counts = limits.iter().zip(&blocks).all(|(limit, block)| limit.contains(&block[1]));
+    let counts = kinds.zip(&blocks).all(|(kind, block)| limits(kind).contains(&block[1]));
     demand(counts, refusal::COUNT)?;
 
-    let read_side = |block| read_states(block).ok_or(refusal::TRANSITIONS);
-    let sides = [read_side(blocks[0])?, read_side(blocks[1])?];
+    let (side_blocks, others) = blocks.split_at(SIDES);
+    let sides: Option<Vec<Vec<State>>> =
+        side_blocks.iter().map(|block| read_states(block)).collect();
+    let sides = sides.ok_or(refusal::TRANSITIONS)?;
     let of_a_kind =
         |side: &Vec<State>| side.iter().enumerate().all(|(own, s)| s.kind(own).is_some());
     demand(sides.iter().all(of_a_kind), refusal::STATE_KIND)?;
 
-    let formulas = read_formulas(blocks[2]).ok_or(refusal::FORMULA)?;
-    let rules = blocks[3][HEADER_BYTES..][..usize::from(blocks[3][1])].to_vec();
+    let formulas = read_formulas(others[0]).ok_or(refusal::FORMULA)?;
+    let rules = others[1][HEADER_BYTES..][..usize::from(others[1][1])].to_vec();
     let named = rules.iter().all(|&rule| usize::from(rule) < formulas.len());
     demand(named, refusal::FORMULA)?;
 
+    let sides = sides.try_into().expect("there is a block for each side");
     let design = Design { sides, formulas, rules };
     let spare = used_bytes(&design)
         .iter()
@@ -164,6 +175,20 @@ pub fn read_design(bytes: &[u8]) -> Result<Design, u8> {
         .all(|(used, block)| (0..BLOCK_BYTES).all(|at| used.contains(&at) || block[at] == 0));
     demand(spare, refusal::UNUSED)?;
     Ok(design)
+}
+
+/// Whether a block has this kind, and 0 as its first record.
+fn headed_right(kind: u8, block: &[u8]) -> bool {
+    block[0] == kind && word(block, 2) == 0
+}
+
+/// How many records a block of this kind may have.
+fn limits(kind: u8) -> RangeInclusive<u8> {
+    match kind {
+        FORMULA_KIND => 0..=64,
+        RULE_KIND => 0..=16,
+        _ => 1..=16,
+    }
 }
 
 /// The states of a side block, unless one has a wrong count, event or target.
@@ -218,9 +243,9 @@ fn read_formula(number: usize, record: &[u8]) -> Option<Formula> {
 }
 
 /// For each block, the places of the bytes that a design uses.
-fn used_bytes(design: &Design) -> [BTreeSet<usize>; 4] {
+fn used_bytes(design: &Design) -> Vec<BTreeSet<usize>> {
     let frame = || (0..HEADER_BYTES).chain(CHECKED_BYTES..BLOCK_BYTES);
-    let of_side = |states: &[State]| {
+    let of_side = |states: &Vec<State>| {
         let records = states.iter().enumerate().flat_map(|(number, state)| {
             let at = HEADER_BYTES + STATE_BYTES * number;
             (at..at + 3).chain(at + 4..at + 4 + 2 * state.transitions.len())
@@ -231,12 +256,9 @@ fn used_bytes(design: &Design) -> [BTreeSet<usize>; 4] {
         let at = HEADER_BYTES + FORMULA_BYTES * number;
         at..at + 1 + operands(formula)
     });
-    [
-        of_side(&design.sides[0]),
-        of_side(&design.sides[1]),
-        frame().chain(formulas).collect(),
-        frame().chain(HEADER_BYTES..HEADER_BYTES + design.rules.len()).collect(),
-    ]
+    let rules = HEADER_BYTES..HEADER_BYTES + design.rules.len();
+    let others = [frame().chain(formulas).collect(), frame().chain(rules).collect()];
+    design.sides.iter().map(of_side).chain(others).collect()
 }
 
 /// How many operands a formula has.
@@ -267,7 +289,7 @@ fn state_block(kind: u8, states: &[State]) -> [u8; BLOCK_BYTES] {
 /// The formulas as a block, not yet sealed.
 fn formula_block(formulas: &[Formula]) -> [u8; BLOCK_BYTES] {
     assert!(formulas.len() <= 64, "a design has at most 64 formulas");
-    let mut block = headed(3, formulas.len(), 0);
+    let mut block = headed(FORMULA_KIND, formulas.len(), 0);
     for (record, &formula) in block[HEADER_BYTES..].chunks_mut(FORMULA_BYTES).zip(formulas) {
         let (kind, a, b) = match formula {
             Formula::True => (1, 0, 0),
@@ -288,7 +310,7 @@ fn formula_block(formulas: &[Formula]) -> [u8; BLOCK_BYTES] {
 /// The rules as a block, not yet sealed.
 fn rule_block(rules: &[u8]) -> [u8; BLOCK_BYTES] {
     assert!(rules.len() <= 16, "a design has at most 16 rules");
-    let mut block = headed(4, rules.len(), 0);
+    let mut block = headed(RULE_KIND, rules.len(), 0);
     block[HEADER_BYTES..][..rules.len()].copy_from_slice(rules);
     block
 }

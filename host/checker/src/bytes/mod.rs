@@ -17,18 +17,26 @@ pub const BLOCK_BYTES: usize = 512;
 pub const CHECKED_BYTES: usize = 510;
 /// Where a block's records begin.
 pub const HEADER_BYTES: usize = 4;
-/// Bytes in a design: four blocks.
-pub const DESIGN_BYTES: usize = 4 * BLOCK_BYTES;
+/// The sides of a design: the kernel, then the host.
+pub const SIDES: usize = 2;
+/// Bytes in a design: a block for each side, one for the formulas, one for the rules.
+pub const DESIGN_BYTES: usize = (SIDES + 2) * BLOCK_BYTES;
 /// Bytes in a state record.
 pub const STATE_BYTES: usize = 20;
 /// Bytes in a formula record.
 pub const FORMULA_BYTES: usize = 4;
-/// Bytes in a converter record.
-pub const RECORD_BYTES: usize = 36;
 /// Transition places in a state and in a converter record.
 pub const PLACES: usize = 8;
-/// The sides of a design: the kernel, then the host.
-pub const SIDES: usize = 2;
+/// Where the transition places of a converter record begin. The states that it names
+/// stand before them, then the count, then what is left is zero.
+pub const FIRST_PLACE: usize = 4;
+/// Where the next record stands in a transition place. The events of the sides stand
+/// before it, and a zero if they are odd in number.
+pub const NEXT_AT: usize = SIDES.next_multiple_of(2);
+/// Bytes in a transition place of a converter record.
+pub const PLACE_BYTES: usize = NEXT_AT + 2;
+/// Bytes in a converter record.
+pub const RECORD_BYTES: usize = FIRST_PLACE + PLACES * PLACE_BYTES;
 /// The most states that a side has.
 pub const MOST_STATES: usize = 16;
 /// The labels of a side: the bits of its label words.
@@ -37,10 +45,10 @@ pub const SIDE_LABELS: usize = 16;
 pub const PROPOSITIONS: usize = SIDES * SIDE_LABELS;
 /// The most records that a converter in memory or in a file has.
 pub const MOST_RECORDS: usize = 65_536;
-/// Records in every block of a converter file but perhaps the last.
-pub const BLOCK_RECORDS: usize = 14;
+/// Records in every block of a converter file but perhaps the last: as many as it holds.
+pub const BLOCK_RECORDS: usize = (CHECKED_BYTES - HEADER_BYTES) / RECORD_BYTES;
 /// The most blocks that a converter file has.
-pub const MOST_BLOCKS: usize = 4_682;
+pub const MOST_BLOCKS: usize = MOST_RECORDS.div_ceil(BLOCK_RECORDS);
 
 /// The check of a block: its first 510 bytes added up, wrapping at 65,536.
 pub fn check(block: &[u8]) -> u16 {

@@ -1,44 +1,56 @@
 //! Converter records, and converters as they stand in memory.
 
+use std::array::from_fn;
 use std::collections::BTreeSet;
 
-use super::{blank, in_range, word, MOST_RECORDS, MOST_STATES, PLACES, RECORD_BYTES};
+use super::{
+    blank, in_range, word, FIRST_PLACE, MOST_RECORDS, MOST_STATES, NEXT_AT, PLACES, PLACE_BYTES,
+    RECORD_BYTES, SIDES,
+};
 use crate::refusal::{self, demand};
 
 /// One transition of a converter record.
 #[derive(Clone, Copy, Debug, PartialEq, Eq, PartialOrd, Ord)]
 pub struct Link {
-    /// The converter's events: the duals of the two sides' events.
-    pub events: [i8; 2],
+    /// The converter's events: the duals of the sides' events.
+    pub events: [i8; SIDES],
     /// The next record.
     pub next: u16,
 }
 
 impl Link {
-    /// The events of the two sides, of which the converter's are the duals.
-    pub fn side_events(&self) -> [i8; 2] {
+    /// The events of the sides, of which the converter's are the duals.
+    pub fn side_events(&self) -> [i8; SIDES] {
         self.events.map(i8::wrapping_neg)
+    }
+
+    /// Writes the transition to a place of zeros.
+    fn put(&self, place: &mut [u8]) {
+        for (byte, event) in place.iter_mut().zip(self.events) {
+            *byte = event as u8;
+        }
+        place[NEXT_AT..].copy_from_slice(&self.next.to_le_bytes());
     }
 }
 
 /// One converter record.
 #[derive(Clone, Debug, PartialEq, Eq, PartialOrd, Ord)]
 pub struct Record {
-    /// The states of the two sides that it names.
-    pub pair: [u8; 2],
+    /// The states that it names, one of each side.
+    pub states: [u8; SIDES],
     /// Its used transition places, in order.
     pub links: Vec<Link>,
 }
 
 impl Record {
-    /// The record as 36 bytes. Nothing is checked but that the places suffice.
+    /// The record as bytes. Nothing is checked but that the places suffice.
     pub fn to_bytes(&self) -> [u8; RECORD_BYTES] {
         assert!(self.links.len() <= PLACES, "a record has eight transition places");
         let mut bytes = [0; RECORD_BYTES];
-        bytes[..3].copy_from_slice(&[self.pair[0], self.pair[1], self.links.len() as u8]);
-        for (place, link) in bytes[4..].chunks_mut(4).zip(&self.links) {
-            let [low, high] = link.next.to_le_bytes();
-            place.copy_from_slice(&[link.events[0] as u8, link.events[1] as u8, low, high]);
+        bytes[..SIDES].copy_from_slice(&self.states);
+        bytes[SIDES] = self.links.len() as u8;
+        for (place, link) in bytes[FIRST_PLACE..].chunks_mut(PLACE_BYTES).zip(&self.links) {
+            link.put(place);
         }
         bytes
     }
@@ -65,19 +77,25 @@ pub fn read_converter_memory(bytes: &[u8]) -> Result<Vec<Record>, u8> {
 
 /// Reads one record of a converter that has `records` records, or declines with 11.
 pub fn read_record(bytes: &[u8], records: usize) -> Result<Record, u8> {
-    let count = usize::from(bytes[2]);
+    let count = usize::from(bytes[SIDES]);
     demand((1..=PLACES).contains(&count), refusal::RECORD)?;
-    let (used, unused) = bytes[4..RECORD_BYTES].split_at(4 * count);
-    demand(bytes[3] == 0 && blank(unused), refusal::RECORD)?;
+    let (head, places) = bytes.split_at(FIRST_PLACE);
+    let (used, unused) = places.split_at(PLACE_BYTES * count);
+    demand(blank(&head[SIDES + 1..]) && blank(unused), refusal::RECORD)?;
+    let used = used.chunks(PLACE_BYTES);
+    demand(used.clone().all(|place| blank(&place[SIDES..NEXT_AT])), refusal::RECORD)?;
 
-    let pair = [bytes[0], bytes[1]];
-    demand(pair.iter().all(|&state| usize::from(state) < MOST_STATES), refusal::RECORD)?;
-    let read_link =
-        |place: &[u8]| Link { events: [place[0] as i8, place[1] as i8], next: word(place, 2) };
-    let links: Vec<Link> = used.chunks(4).map(read_link).collect();
-    let event_pairs: BTreeSet<[i8; 2]> = links.iter().map(|link| link.events).collect();
-    demand(event_pairs.len() == count, refusal::RECORD)?;
-    demand(event_pairs.iter().flatten().all(|&event| in_range(event)), refusal::RECORD)?;
+    let states: [u8; SIDES] = from_fn(|side| head[side]);
+    demand(states.iter().all(|&state| usize::from(state) < MOST_STATES), refusal::RECORD)?;
+    let links: Vec<Link> = used.map(read_link).collect();
+    let events: BTreeSet<[i8; SIDES]> = links.iter().map(|link| link.events).collect();
+    demand(events.len() == count, refusal::RECORD)?;
+    demand(events.iter().flatten().all(|&event| in_range(event)), refusal::RECORD)?;
     demand(links.iter().all(|link| usize::from(link.next) < records), refusal::RECORD)?;
-    Ok(Record { pair, links })
+    Ok(Record { states, links })
+}
+
+/// The transition that stands in a place.
+fn read_link(place: &[u8]) -> Link {
+    Link { events: from_fn(|side| place[side] as i8), next: word(place, NEXT_AT) }
 }

@@ -1,10 +1,12 @@
-//! States of each kind, the designs that join two of them, and every converter
-//! that enables some of the transitions of the two.
+//! States of each kind, the designs that join one for each side, and every converter
+//! that enables some of their joint transitions.
 
 // Each test file uses some of these.
 #![allow(dead_code)]
 
-use checker::bytes::{Design, Link, Record, State, Transition, PLACES};
+use std::array::from_fn;
+
+use checker::bytes::{Design, Link, Record, State, Transition, PLACES, SIDES};
 
 /// States of each kind, the kinds in the order in which the paper names them:
 /// input 0, output-only 1, delayed 2. A state is its events in order, each with
@@ -22,12 +24,19 @@ pub const STATES: [&[&[(i8, u8)]]; 3] = [
     &[&[(-1, 1), (0, 0)], &[(0, 0), (-1, 1)], &[(-63, 0), (0, 0)], &[(0, 0), (-2, 0)]],
 ];
 
-/// For every two kinds, by three times the first plus the second: how many
-/// converters there are below, and how many of them are matched.
+/// The kinds of all sides by one number: they are its digits to the base three, that of
+/// the last side the last.
+pub fn kinds(number: usize) -> [usize; SIDES] {
+    let behind = |side: usize| 3_usize.pow((SIDES - 1 - side) as u32);
+    from_fn(|side| number / behind(side) % 3)
+}
+
+/// For the kinds of each number: how many converters there are below, and how many of
+/// them are matched.
 ///
 /// Of the six input states two have 1, two have 2 and two have 3 transitions; the
-/// two output-only states have 1, the four delayed ones 2. From n transitions of a
-/// pair 2^n - 1 choices can be made, and one less from nine: a record holds eight.
+/// two output-only states have 1, the four delayed ones 2. From n joint transitions
+/// 2^n - 1 choices can be made, and one less from nine: a record holds eight.
 pub const COUNTS: [[usize; 2]; 9] = [
     // Every choice will do. In the sum n is 1, 2, 3; 2, 4, 6; 3, 6, 9.
     [2 * 2 * (1 + 3 + 7 + 3 + 15 + 63 + 7 + 63 + 510); 2],
@@ -44,13 +53,28 @@ pub const COUNTS: [[usize; 2]; 9] = [
     [4 * 4 * 15, 4 * 4],
 ];
 
-/// Every pair, where each side has two states.
-pub const PAIRS: [[u8; 2]; 4] = [[0, 0], [0, 1], [1, 0], [1, 1]];
+/// Every joint state, where each side has two states: the state of each side is a bit
+/// of its number, that of the last side the last.
+pub fn joint_states() -> [[u8; SIDES]; 1 << SIDES] {
+    from_fn(|number| from_fn(|side| (number >> (SIDES - 1 - side) & 1) as u8))
+}
 
-/// A design for every two of the states above whose kinds have this number, and
-/// they stand at this pair. The other state of a side ticks and stays. There are
+/// One thing of each side, in every way.
+fn one_of_each<T: Copy>(things: [&[T]; SIDES]) -> Vec<[T; SIDES]> {
+    let mut ways = vec![things.map(|side| side[0])];
+    for (side, things) in things.into_iter().enumerate() {
+        let with =
+            |way: &[T; SIDES], thing: T| from_fn(|at| if at == side { thing } else { way[at] });
+        ways =
+            ways.iter().flat_map(|way| things.iter().map(move |&thing| with(way, thing))).collect();
+    }
+    ways
+}
+
+/// A design for all of the states above whose kinds have this number, where they
+/// stand at this joint state. The other state of a side ticks and stays. There are
 /// no rules.
-pub fn designs(number: usize, pair: [u8; 2]) -> Vec<Design> {
+pub fn designs(number: usize, joint: [u8; SIDES]) -> Vec<Design> {
     let side = |own: u8, events: &[(i8, u8)]| {
         let transition = |&(event, on): &(i8, u8)| Transition { event, target: own ^ on };
         let tick = Transition { event: 0, target: own ^ 1 };
@@ -58,51 +82,45 @@ pub fn designs(number: usize, pair: [u8; 2]) -> Vec<Design> {
         states[usize::from(own)].transitions = events.iter().map(transition).collect();
         states
     };
-    let mut designs = Vec::new();
-    for first in STATES[number / 3] {
-        for second in STATES[number % 3] {
-            let sides = [side(pair[0], first), side(pair[1], second)];
-            designs.push(Design { sides, formulas: vec![], rules: vec![] });
-        }
-    }
-    designs
+    let joined = |events: [&[(i8, u8)]; SIDES]| {
+        let sides = from_fn(|at| side(joint[at], events[at]));
+        Design { sides, formulas: vec![], rules: vec![] }
+    };
+    one_of_each(kinds(number).map(|kind| STATES[kind])).into_iter().map(joined).collect()
 }
 
-/// The number of the record that names this pair in the converters below.
-pub fn record_of(pair: [u8; 2]) -> usize {
-    usize::from(2 * pair[0] + pair[1])
+/// The number of the record that names this joint state in the converters below.
+pub fn record_of(joint: [u8; SIDES]) -> usize {
+    joint.iter().fold(0, |number, &state| 2 * number + usize::from(state))
 }
 
-/// Every transition of a pair, as it stands in the converters below.
-pub fn links(design: &Design, pair: [u8; 2]) -> Vec<Link> {
-    let [first, second] = [0, 1].map(|side| &design.sides[side][usize::from(pair[side])]);
-    let mut links = Vec::new();
-    for a in &first.transitions {
-        for b in &second.transitions {
-            let next = record_of([a.target, b.target]) as u16;
-            links.push(Link { events: [-a.event, -b.event], next });
-        }
-    }
-    links
+/// Every transition of a joint state, as it stands in the converters below.
+pub fn links(design: &Design, joint: [u8; SIDES]) -> Vec<Link> {
+    let transitions = from_fn(|side| &design.sides[side][usize::from(joint[side])].transitions[..]);
+    let link = |taken: [Transition; SIDES]| {
+        let next = record_of(taken.map(|transition| transition.target)) as u16;
+        Link { events: taken.map(|transition| -transition.event), next }
+    };
+    one_of_each(transitions).into_iter().map(link).collect()
 }
 
-/// Each converter with one record for each pair, in which the record for this
-/// pair enables some transitions and the others enable all. That is right at the
+/// Each converter with one record for each joint state, in which the record for this
+/// one enables some transitions and the others enable all. That is right at the
 /// others, whatever their kinds, since one of their two states has a tick alone.
-pub fn converters(design: &Design, pair: [u8; 2]) -> Vec<Vec<Record>> {
-    let all = PAIRS.map(|pair| Record { pair, links: links(design, pair) });
-    let links = &all[record_of(pair)].links;
+pub fn converters(design: &Design, joint: [u8; SIDES]) -> Vec<Vec<Record>> {
+    let all = joint_states().map(|states| Record { states, links: links(design, states) });
+    let links = &all[record_of(joint)].links;
     let choose = |choice: usize| {
         let chosen = (0..links.len()).filter(|at| choice >> at & 1 == 1).map(|at| links[at]);
         let mut converter = all.to_vec();
-        converter[record_of(pair)].links = chosen.collect();
+        converter[record_of(joint)].links = chosen.collect();
         converter
     };
     let held = |choice: &usize| choice.count_ones() as usize <= PLACES;
     (1..1 << links.len()).filter(held).map(choose).collect()
 }
 
-/// The transitions that a record enables, by the events of the two sides.
-pub fn enabled(record: &Record) -> Vec<[i8; 2]> {
+/// The transitions that a record enables, by the events of the sides.
+pub fn enabled(record: &Record) -> Vec<[i8; SIDES]> {
     record.links.iter().map(|link| link.events.map(|event| -event)).collect()
 }

@@ -1,5 +1,5 @@
 //! Designs with some of their formulas rewritten, and so the paper's Definition 2,
-//! under which a proposition holds of a pair where it holds of some side.
+//! under which a proposition holds of a joint state where it holds of some side.
 
 // Each test file uses some of these.
 #![allow(dead_code)]

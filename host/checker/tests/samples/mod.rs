@@ -5,7 +5,7 @@
 #![allow(dead_code)]
 
 use checker::bytes::{
-    positions, read_converter_memory, Design, Formula, Link, Record, State, Transition,
+    positions, read_converter_memory, Design, Formula, Link, Record, State, Transition, SIDES,
 };
 
 /// A state from the bits of its label word and its transitions.
@@ -20,13 +20,13 @@ pub fn state(bits: &[u8], transitions: &[(i8, u8)]) -> State {
 }
 
 /// One ticking state on each side, with these label words.
-pub fn ticking(labels: [u16; 2]) -> [Vec<State>; 2] {
+pub fn ticking(labels: [u16; SIDES]) -> [Vec<State>; SIDES] {
     labels.map(|label| vec![State { label, ..state(&[], &[(0, 0)]) }])
 }
 
-/// A converter record from its pair and its transitions.
-pub fn record(pair: [u8; 2], links: &[([i8; 2], u16)]) -> Record {
-    Record { pair, links: links.iter().map(|&(events, next)| Link { events, next }).collect() }
+/// A converter record from the states that it names and its transitions.
+pub fn record(states: [u8; SIDES], links: &[([i8; SIDES], u16)]) -> Record {
+    Record { states, links: links.iter().map(|&(events, next)| Link { events, next }).collect() }
 }
 
 /// The handshake pair H.
@@ -111,7 +111,7 @@ pub fn next_sixteen_next_seventeen() -> Vec<Formula> {
 
 /// The sides of lock and menu, which only tick, from each state to the other: k0 and
 /// m1 have bit 3.
-fn lock_and_menu_sides() -> [Vec<State>; 2] {
+fn lock_and_menu_sides() -> [Vec<State>; SIDES] {
     [
         vec![state(&[3], &[(0, 1)]), state(&[], &[(0, 0)])],
         vec![state(&[], &[(0, 1)]), state(&[3], &[(0, 0)])],

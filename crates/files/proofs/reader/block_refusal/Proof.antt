@@ -4,6 +4,7 @@ use mathlib.Core.Bool.{Bool, true, false, not}
 use Prim.Native.Nat.{_+_, _-_, _*_, _≤_}
 use native.Mathlib.Omega.{arith}
 use borrow.Author.Tests.{not-true, not-false}
+use Rattle.layout.specs.Sizes.{block-records, record-bytes}
 use Rattle.layout.specs.Bytes.{part, all-zero}
 use Rattle.files.specs.Files.{file-block}
 use Rattle.refusals.specs.Refusals.{first-failing, check-right, header-right, count-right, unused-right}
@@ -26,7 +27,7 @@ fourth : (c : tie.After-behind-right) → unused-right (c .before .before .befor
 fourth c =
     let a = c .before .before .before .before .before .before .before .before .before .before .args in
     unused-behind (a .s .now) (a .n) (a .k)
-    ∙ ap (λ m. all-zero (part (a .s .now) (512 * a .k + 4 + 36 * m) (506 - 36 * m))) (sym (c .before .read-byte .ensures))
+    ∙ ap (λ m. all-zero (part (a .s .now) (512 * a .k + 4 + record-bytes * m) (506 - record-bytes * m))) (sym (c .before .read-byte .ensures))
     ∙ sym (c .behind-right .ensures)
 
 -- a test that passed
@@ -37,7 +38,7 @@ failed : (b r : Bool) → b ≡ r → not r ≡ true → b ≡ false
 failed b r e n = e ∙ not-true r n
 
 -- its count is at most fourteen
-most : (c : tie.After-read-byte) → c .read-byte .result ≤ 14
+most : (c : tie.After-read-byte) → c .read-byte .result ≤ block-records
 most c =
     let a = c .before .before .before .before .before .before .before .before .before .args in
     omega (arith, c .read-byte .ensures, counted (a .s .now) (a .n) (a .k) (passed _ (c .before .before .count-right .result) (third (c .before .before)) (c .before .if3 .left)) .at-most)

@@ -7,6 +7,7 @@ use native.Mathlib.Omega.{arith}
 use borrow.Author.Count.{below-more}
 use borrow.Author.Needs.{needs}
 use borrow.Author.Tests.{not-true, not-false}
+use Rattle.layout.specs.Sizes.{record-bytes}
 use Rattle.layout.specs.Converters.{records}
 use Rattle.files.specs.Files.{file-records}
 use Rattle.refusals.specs.Refusals.{record-right, records-right}
@@ -16,7 +17,7 @@ use Rattle.files.proofs.reader.file_records_right.Statement.{statement}
 use Rattle.files.proofs.reader.file_records_right.Tie as tie
 
 abbrev Inv-loop : tie.InvT-loop
-Inv-loop s n j₀ j = (j ≤ n) × ((i : ℕ) → i < j → record-right (file-records s) (records (file-records s)) (36 * i) ≡ true)
+Inv-loop s n j₀ j = (j ≤ n) × ((i : ℕ) → i < j → record-right (file-records s) (records (file-records s)) (record-bytes * i) ≡ true)
 
 abbrev μ-loop : tie.MeasureT-loop
 μ-loop s n j₀ j = n - j
@@ -24,7 +25,7 @@ abbrev μ-loop : tie.MeasureT-loop
 -- the answer for record j
 asked : (c : tie.After-record-right Inv-loop μ-loop)
     → record-right (file-records (c .before .before .before .before .before .before .args .s .now)) (records (file-records (c .before .before .before .before .before .before .args .s .now)))
-    (36 * c .before .before .before .loop .j)
+    (record-bytes * c .before .before .before .loop .j)
     ≡ c .record-right .result
 asked c =
     let h = c .before .before .before in
@@ -56,7 +57,7 @@ returns c =
     let h = c .before .before .before .before in
     let s = h .before .before .before in
     let f = file-records (s .args .s .now) in
-    sym (every-false (λ i. record-right f (records f) (36 * i)) (records f) (h .loop .j) (omega (arith, h .before .record-count .ensures, records-file (s .args .s .now)))
+    sym (every-false (λ i. record-right f (records f) (record-bytes * i)) (records f) (h .loop .j) (omega (arith, h .before .record-count .ensures, records-file (s .args .s .now)))
     (asked (c .before) ∙ not-true (c .before .record-right .result) (c .if1 .taken)))
 
 add-j : tie.Need-add-j Inv-loop μ-loop
@@ -74,7 +75,7 @@ returns-2 c =
     let h = c .before in
     let s = h .before .before .before in
     let f = file-records (s .args .s .now) in
-    sym (every-true (λ i. record-right f (records f) (36 * i)) (records f) (λ i u. h .loop .inv .1 i (omega (arith, h .before .record-count .ensures, records-file (s .args .s .now)))))
+    sym (every-true (λ i. record-right f (records f) (record-bytes * i)) (records f) (λ i u. h .loop .inv .1 i (omega (arith, h .before .record-count .ensures, records-file (s .args .s .now)))))
 
 pub file-records-right-spec : {M : Type 1} → statement M
 file-records-right-spec =

@@ -2,6 +2,7 @@
 use mathlib.Core.Path.{_≡_, sym, _∙_}
 use Prim.Native.Nat.{_*_, _≤_}
 use lib.ListN.{length}
+use Rattle.layout.specs.Sizes.{record-bytes}
 use Rattle.files.specs.Files.{file-count}
 use Rattle.files.specs.FileRefusals.{read-refusal}
 use Rattle.files.proofs.FileSizes.{size-passes}
@@ -16,7 +17,7 @@ passes : (c : tie.Else1) → read-refusal (c .before .before .before .before .ar
 passes c = sym (c .before .read-refusal .ensures) ∙ c .if1 .left
 
 taken : (c : tie.Else1)
-    → AcceptedFile (c .before .before .before .before .args .blocks .now) × (36 * file-count (c .before .before .before .before .args .blocks .now) ≤ length (c .before .before .before .before .args .converter .now))
+    → AcceptedFile (c .before .before .before .before .args .blocks .now) × (record-bytes * file-count (c .before .before .before .before .args .blocks .now) ≤ length (c .before .before .before .before .args .converter .now))
 taken c = read-accepted (c .before .before .before .before .args .blocks .now) (length (c .before .before .before .before .args .converter .now)) (passes c)
 
 read-refusal-requires : tie.Need-read-refusal-requires

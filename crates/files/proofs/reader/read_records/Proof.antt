@@ -5,6 +5,7 @@ use native.Mathlib.Omega.{arith}
 use borrow.Author.Needs.{needs}
 use lib.ListN.{length, take}
 use lib.Seq.{take-all, length-take-le}
+use Rattle.layout.specs.Sizes.{record-bytes}
 use Rattle.layout.specs.Bytes.{part, put}
 use Rattle.files.specs.Files.{file-records}
 use Rattle.layout.proofs.Put.{put-nil, length-put}
@@ -13,7 +14,7 @@ use Rattle.files.proofs.reader.read_records.Statement.{statement}
 use Rattle.files.proofs.reader.read_records.Tie as tie
 
 abbrev Inv-loop : tie.InvT-loop
-Inv-loop s converter₀ n j₀ converter j = (j ≤ n) × (converter ≡ put converter₀ 0 (take (36 * j) (file-records s)))
+Inv-loop s converter₀ n j₀ converter j = (j ≤ n) × (converter ≡ put converter₀ 0 (take (record-bytes * j) (file-records s)))
 
 abbrev μ-loop : tie.MeasureT-loop
 μ-loop s converter₀ n j₀ converter j = n - j
@@ -25,8 +26,8 @@ kept c =
     let l = c .loop in
     let f = file-records (s .args .s .now) in
     ap length (l .inv .1)
-    ∙ length-put (take (36 * l .j) f) (s .args .converter .now) 0
-    (omega (arith, c .before .record-count .ensures, s .pre .3, length-file-records (s .args .s .now), length-take-le (36 * l .j) f (omega (arith, c .before .record-count .ensures, length-file-records (s .args .s .now)))))
+    ∙ length-put (take (record-bytes * l .j) f) (s .args .converter .now) 0
+    (omega (arith, c .before .record-count .ensures, s .pre .3, length-file-records (s .args .s .now), length-take-le (record-bytes * l .j) f (omega (arith, c .before .record-count .ensures, length-file-records (s .args .s .now)))))
 
 record-count-requires : tie.Need-record-count-requires Inv-loop μ-loop
 record-count-requires c κs = search needs
@@ -63,7 +64,7 @@ loop-again c =
     let e = h .before .record-count .ensures in (
       search needs,
       d .copy .ensures
-          ∙ ap₂ (λ l i. put l (36 * h .loop .j) (part (s .args .s .now) i 36)) (h .loop .inv .1) (d .before .before .record-place .ensures)
+          ∙ ap₂ (λ l i. put l (record-bytes * h .loop .j) (part (s .args .s .now) i record-bytes)) (h .loop .inv .1) (d .before .before .record-place .ensures)
           ∙ put-next-record (s .args .s .now) (s .pre .2) (h .loop .j) (omega arith) (s .args .converter .now) (omega (arith, s .pre .3)),
     )
 
@@ -75,7 +76,7 @@ returns c =
     let h = c .before in
     let s = h .before .before .before .before in
     let e = h .before .record-count .ensures in
-    h .loop .inv .1 ∙ ap (put (s .args .converter .now) 0) (take-all (36 * h .loop .j) (file-records (s .args .s .now)) (omega (arith, length-file-records (s .args .s .now))))
+    h .loop .inv .1 ∙ ap (put (s .args .converter .now) 0) (take-all (record-bytes * h .loop .j) (file-records (s .args .s .now)) (omega (arith, length-file-records (s .args .s .now))))
 
 pub read-records-spec : {M : Type 1} → statement M
 read-records-spec =

@@ -4,6 +4,7 @@ use mathlib.Core.Bool.{cond}
 use Prim.Native.Nat.{_*_}
 use native.Mathlib.Omega.{arith}
 use borrow.Author.Tests.{le-leb, lt-leb}
+use Rattle.layout.specs.Sizes.{record-bytes}
 use Rattle.files.specs.Files.{file-count}
 use Rattle.refusals.specs.Refusals.{first-failing}
 use Rattle.files.specs.FileRefusals.{file-tests}
@@ -38,14 +39,14 @@ unfolding first-failing
 returns-2 c =
     let e = c .before .before in
     let a = e .before .before .before .args in
-    sym (read-later (a .s .now) (a .room) (none e) ∙ ap (λ b. cond b 0 12) (lt-leb (36 * file-count (a .s .now)) (a .room) (omega (arith, c .before .record-count .ensures))))
+    sym (read-later (a .s .now) (a .room) (none e) ∙ ap (λ b. cond b 0 12) (lt-leb (record-bytes * file-count (a .s .now)) (a .room) (omega (arith, c .before .record-count .ensures))))
 
 returns-3 : tie.Need-returns-3
 unfolding first-failing
 returns-3 c =
     let e = c .before .before in
     let a = e .before .before .before .args in
-    sym (read-later (a .s .now) (a .room) (none e) ∙ ap (λ b. cond b 0 12) (le-leb (36 * file-count (a .s .now)) (a .room) (omega (arith, c .before .record-count .ensures))))
+    sym (read-later (a .s .now) (a .room) (none e) ∙ ap (λ b. cond b 0 12) (le-leb (record-bytes * file-count (a .s .now)) (a .room) (omega (arith, c .before .record-count .ensures))))
 
 pub read-refusal-spec : {M : Type 1} → statement M
 read-refusal-spec =

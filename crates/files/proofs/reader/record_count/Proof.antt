@@ -2,6 +2,7 @@
 use mathlib.Core.Path.{_∙_, ap}
 use Prim.Native.Nat.{_+_, _-_, _*_}
 use native.Mathlib.Omega.{arith}
+use Rattle.layout.specs.Sizes.{block-records}
 use Rattle.layout.specs.Bytes.{byte}
 use Rattle.files.specs.Files.{file-count}
 use Rattle.files.proofs.FileSizes.{sized}
@@ -41,7 +42,7 @@ unfolding file-count
 returns c =
     let s = c .before .before .before in
     let n = c .before .block-count .result in
-    ap (λ x. 14 * (n - 1) + x) (c .read-byte .ensures) ∙ ap (λ n. 14 * (n - 1) + byte (s .args .s .now) (512 * (n - 1) + 1)) (c .before .block-count .ensures)
+    ap (λ x. block-records * (n - 1) + x) (c .read-byte .ensures) ∙ ap (λ n. block-records * (n - 1) + byte (s .args .s .now) (512 * (n - 1) + 1)) (c .before .block-count .ensures)
 
 pub record-count-spec : {M : Type 1} → statement M
 record-count-spec =

@@ -2,6 +2,7 @@
 use mathlib.Core.Path.{ap, _∙_}
 use Prim.Native.Nat.{_-_, _*_, min}
 use native.Mathlib.Omega.{arith}
+use Rattle.layout.specs.Sizes.{block-records}
 use Rattle.refusals.proofs.Accepted.{accepted}
 use Rattle.files.proofs.WrittenFile.{put-block}
 use borrow.Author.Needs.{needs}
@@ -72,7 +73,7 @@ returns c =
     let a = s .args in
     put-block (a .converter .now) (accepted (a .converter .now) (s .pre .0)) (a .k) (s .pre .1) (a .blocks .now)
     (headed .write-header .last .0) (copied .copy .last .1 .1 .0) (filled .fill .last .0) (sealed .seal .last .0) (counted .count-in-block .result) (s .pre .2)
-    (counted .count-in-block .ensures ∙ ap (λ n. min 14 (n - 14 * a .k)) (counted .before .count .ensures))
+    (counted .count-in-block .ensures ∙ ap (λ n. min block-records (n - block-records * a .k)) (counted .before .count .ensures))
     (headed .write-header .ensures) (copied .copy .ensures) (filled .fill .ensures) (sealed .seal .ensures)
 
 pub write-block-spec : {M : Type 1} → statement M

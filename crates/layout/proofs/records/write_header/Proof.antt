@@ -1,60 +1,53 @@
--- `records::write_header` meets its contract: four stores, one behind the other.
+-- `records::write_header` meets its contract: the names, and two bytes behind them.
+use mathlib.Core.Path.{_≡_, ap, _∙_}
+use mathlib.Core.List.{[], _∷_}
+use Prim.Native.Nat.{_+_}
 use native.Mathlib.Omega.{arith}
-use lib.ListN.{getD, length-set}
-use Rattle.layout.specs.Tables.{table, table-from}
-use Rattle.layout.proofs.Put.{put-four}
+use lib.ListN.{length, length-set}
+use Rattle.layout.specs.Sizes.{side-count}
+use Rattle.layout.specs.Bytes.{put}
+use Rattle.layout.specs.Records.{names-to}
+use Rattle.layout.proofs.Put.{put-pair, put-behind}
+use Rattle.layout.proofs.RecordBytes.{length-names}
 use borrow.Author.Needs.{needs}
 use Rattle.layout.proofs.records.write_header.Statement.{statement}
 use Rattle.layout.proofs.records.write_header.Tie as tie
 
-array-read-s : tie.Need-array-read-s
-array-read-s c = search needs
-
-slice-write-s : tie.Need-slice-write-s
-slice-write-s c = search needs
-
-array-read-s-2 : tie.Need-array-read-s-2
-array-read-s-2 c = search needs
+write-names-requires : tie.Need-write-names-requires
+write-names-requires c κs = search needs
 
 add-s : tie.Need-add-s
 add-s c = search needs
 
-slice-write-s-2 : tie.Need-slice-write-s-2
-slice-write-s-2 c = simp length-set (omega arith)
+abbrev started : tie.After-slice-known2 → tie.Start
+started c = let named = c .before .before in named .before .before .before .before
+
+-- the slice keeps its length
+kept : (c : tie.After-slice-known2) → length (c .before .before .write-names .last .0) ≡ length (started c .args .s .now)
+kept c = search needs
+
+slice-write-s : tie.Need-slice-write-s
+slice-write-s c = omega (arith, kept c)
 
 add-s-2 : tie.Need-add-s-2
 add-s-2 c = search needs
 
-slice-write-s-3 : tie.Need-slice-write-s-3
-slice-write-s-3 c = simp length-set (omega arith)
-
-add-s-3 : tie.Need-add-s-3
-add-s-3 c = search needs
-
-slice-write-s-4 : tie.Need-slice-write-s-4
-slice-write-s-4 c = simp length-set (omega arith)
+slice-write-s-2 : tie.Need-slice-write-s-2
+slice-write-s-2 c = simp length-set (omega (arith, kept c))
 
 same-length : tie.Need-same-length
 same-length c = search needs
 
 returns : tie.Need-returns
-unfolding table table-from
 returns c =
-    let a = c .before .args in
-    put-four (a .s .now) (a .at) (getD (a .r .names) 0 0) (getD (a .r .names) 1 0) (a .r .count) 0 (c .before .pre)
+    let a = started c .args in
+    let named = c .before .before .write-names in
+    let behind : a .at + 3 ≡ a .at + side-count + 1 = omega arith in
+    rw behind (put-pair (named .last .0) (a .at + side-count) (a .r .count) 0 (omega (arith, kept c)))
+    ∙ ap (λ l. put l (a .at + side-count) (a .r .count ∷ 0 ∷ [])) (named .ensures)
+    ∙ put-behind (names-to (a .r .names)) (a .r .count ∷ 0 ∷ []) (a .s .now) (a .at) side-count (length-names (a .r .names)) (omega arith)
 
 pub write-header-spec : {M : Type 1} → statement M
 write-header-spec =
     tie.close
-    (tie.spec
-    array-read-s
-    slice-write-s
-    array-read-s-2
-    add-s
-    slice-write-s-2
-    add-s-2
-    slice-write-s-3
-    add-s-3
-    slice-write-s-4
-    same-length
-    returns)
+    (tie.spec write-names-requires add-s slice-write-s add-s-2 slice-write-s-2 same-length returns)

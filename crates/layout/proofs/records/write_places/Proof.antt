@@ -5,6 +5,7 @@ use Prim.Native.Nat.{_+_, _-_, _*_, _≤_}
 use native.Mathlib.Omega.{arith}
 use borrow.Author.Needs.{needs}
 use lib.ListN.{length, getD}
+use Rattle.layout.specs.Sizes.{place-count, transition-bytes}
 use Rattle.layout.specs.Tables.{table, table-from}
 use Rattle.layout.specs.Bytes.{put}
 use Rattle.layout.specs.Records.{no-transition, places-to}
@@ -15,10 +16,10 @@ use Rattle.layout.proofs.records.write_places.Statement.{statement}
 use Rattle.layout.proofs.records.write_places.Tie as tie
 
 abbrev Inv-loop : tie.InvT-loop
-Inv-loop s₀ at r k₀ s k = (k ≤ 8) × (s ≡ put s₀ at (first-places-to r k))
+Inv-loop s₀ at r k₀ s k = (k ≤ place-count) × (s ≡ put s₀ at (first-places-to r k))
 
 abbrev μ-loop : tie.MeasureT-loop
-μ-loop s₀ at r k₀ s k = 8 - k
+μ-loop s₀ at r k₀ s k = place-count - k
 
 -- the slice keeps its length
 kept : (c : tie.At-loop Inv-loop μ-loop) → length (c .loop .s) ≡ length (c .before .before .args .s .now)
@@ -57,8 +58,8 @@ loop-again c =
     let l = c .before .before .before .before .before .before .loop in (
       search needs,
       c .before .before .write-transition .ensures
-          ∙ ap (λ x. put x (a .at + 4 * l .k) (place-to (a .t3) (l .k))) (l .inv .1)
-          ∙ put-behind (first-places-to (a .t3) (l .k)) (place-to (a .t3) (l .k)) (a .s .now) (a .at) (4 * l .k) (length-first-places (a .t3) (l .k))
+          ∙ ap (λ x. put x (a .at + transition-bytes * l .k) (place-to (a .t3) (l .k))) (l .inv .1)
+          ∙ put-behind (first-places-to (a .t3) (l .k)) (place-to (a .t3) (l .k)) (a .s .now) (a .at) (transition-bytes * l .k) (length-first-places (a .t3) (l .k))
           (omega (arith, c .before .before .before .before .before .before .before .before .pre, length-transition (getD (a .t3 .places) (l .k) no-transition)))
           ∙ ap (λ x. put (a .s .now) (a .at) x) (sym (pieces-more (place-to (a .t3)) (l .k))),
     )
@@ -70,7 +71,7 @@ returns : tie.Need-returns Inv-loop μ-loop
 unfolding places-to
 returns c =
     let a = c .before .before .before .args in
-    let e : c .before .loop .k ≡ 8 = omega arith in
+    let e : c .before .loop .k ≡ place-count = omega arith in
     c .before .loop .inv .1 ∙ ap (λ k. put (a .s .now) (a .at) (first-places-to (a .t3) k)) e
 
 pub write-places-spec : {M : Type 1} → statement M

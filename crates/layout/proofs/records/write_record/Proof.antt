@@ -3,6 +3,7 @@ use mathlib.Core.Path.{ap, _∙_}
 use Prim.Native.Nat.{_+_}
 use native.Mathlib.Omega.{arith}
 use borrow.Author.Needs.{needs}
+use Rattle.layout.specs.Sizes.{places-at}
 use Rattle.layout.specs.Bytes.{put}
 use Rattle.layout.specs.Records.{header-to, places-to}
 use Rattle.layout.proofs.Put.{put-behind}
@@ -24,10 +25,13 @@ same-length c = search needs
 
 returns : tie.Need-returns
 returns c =
-    let a = c .before .before .before .before .before .before .before .before .before .args in
-    c .before .before .write-places .ensures
-    ∙ ap (λ l. put l (a .at + 4) (places-to (a .r))) (c .before .before .before .before .before .before .write-header .ensures)
-    ∙ put-behind (header-to (a .r)) (places-to (a .r)) (a .s .now) (a .at) 4 (length-header (a .r)) (omega (arith, c .before .before .before .before .before .before .before .before .before .pre, length-places (a .r)))
+    let placed = c .before .before in
+    let headed = placed .before .before .before .before in
+    let start = headed .before .before .before in
+    let a = start .args in
+    placed .write-places .ensures
+    ∙ ap (λ l. put l (a .at + places-at) (places-to (a .r))) (headed .write-header .ensures)
+    ∙ put-behind (header-to (a .r)) (places-to (a .r)) (a .s .now) (a .at) places-at (length-header (a .r)) (omega (arith, start .pre, length-places (a .r)))
 
 pub write-record-spec : {M : Type 1} → statement M
 write-record-spec =

@@ -24,8 +24,8 @@ abbrev state-number : ℕ → Bool
 state-number s = ltb s most-states
 
 -- there is a name for each side
-two : (s : tie.Start Inv-loop μ-loop) → length (s .args .t1) ≡ side-count
-two s = s .good .0 .1 .0 .1
+one-each : (s : tie.Start Inv-loop μ-loop) → length (s .args .t1) ≡ side-count
+one-each s = s .good .0 .1 .0 .1
 
 loop-holds : tie.Need-loop-holds Inv-loop μ-loop
 loop-holds c = (search needs, λ k h. absurd (not-suc-le-zero h))
@@ -40,7 +40,7 @@ returns : tie.Need-returns Inv-loop μ-loop
 returns c =
     let s = c .before .before .before in
     let l = c .before .before .loop in
-    sym (all-false state-number 0 (s .args .t1) (l .i) (omega (arith, two s)) (le-ltb (getD (s .args .t1) (l .i) 0) most-states (c .if1 .taken)))
+    sym (all-false state-number 0 (s .args .t1) (l .i) (omega (arith, one-each s)) (le-ltb (getD (s .args .t1) (l .i) 0) most-states (c .if1 .taken)))
 
 add-i : tie.Need-add-i Inv-loop μ-loop
 add-i c = search needs
@@ -54,7 +54,7 @@ loop-again c = (search needs, below-more _ _ (c .before .before .loop .inv .1) (
 returns-2 : tie.Need-returns-2 Inv-loop μ-loop
 returns-2 c =
     let s = c .before .before in
-    sym (all-true state-number 0 (s .args .t1) (λ k h. lt-ltb (getD (s .args .t1) k 0) most-states (c .before .loop .inv .1 k (omega (arith, two s)))))
+    sym (all-true state-number 0 (s .args .t1) (λ k h. lt-ltb (getD (s .args .t1) k 0) most-states (c .before .loop .inv .1 k (omega (arith, one-each s)))))
 
 pub names-right-spec : {M : Type 1} → statement M
 names-right-spec =

@@ -7,6 +7,7 @@ use native.Mathlib.Omega.{arith}
 use borrow.Author.Count.{below-more}
 use borrow.Author.Needs.{needs}
 use borrow.Author.Tests.{not-true, not-false}
+use Rattle.layout.specs.Sizes.{record-bytes}
 use Rattle.layout.specs.Converters.{records}
 use Rattle.refusals.specs.Refusals.{record-right, records-right}
 use Rattle.layout.proofs.Tables.{every-true, every-false}
@@ -14,7 +15,7 @@ use Rattle.refusals.proofs.converters.records_right.Statement.{statemen
 use Rattle.refusals.proofs.converters.records_right.Tie as tie
 
 abbrev Inv-loop : tie.InvT-loop
-Inv-loop s n k₀ k = (k ≤ n) × ((j : ℕ) → j < k → record-right s (records s) (36 * j) ≡ true)
+Inv-loop s n k₀ k = (k ≤ n) × ((j : ℕ) → j < k → record-right s (records s) (record-bytes * j) ≡ true)
 
 abbrev μ-loop : tie.MeasureT-loop
 μ-loop s n k₀ k = n - k
@@ -24,8 +25,8 @@ counted : (c : tie.After-record-right Inv-loop μ-loop) → c .before .before .b
 counted c = c .before .before .before .count .ensures
 
 asked : (c : tie.After-record-right Inv-loop μ-loop)
-    → record-right (c .before .before .before .before .before .args .s .now) (records (c .before .before .before .before .before .args .s .now)) (36 * c .before .before .loop .k) ≡ c .record-right .result
-asked c = sym (c .record-right .ensures ∙ ap (λ n. record-right (c .before .before .before .before .before .args .s .now) n (36 * c .before .before .loop .k)) (counted c))
+    → record-right (c .before .before .before .before .before .args .s .now) (records (c .before .before .before .before .before .args .s .now)) (record-bytes * c .before .before .loop .k) ≡ c .record-right .result
+asked c = sym (c .record-right .ensures ∙ ap (λ n. record-right (c .before .before .before .before .before .args .s .now) n (record-bytes * c .before .before .loop .k)) (counted c))
 
 count-requires : tie.Need-count-requires Inv-loop μ-loop
 count-requires c κs = search needs
@@ -44,7 +45,7 @@ unfolding records-right
 returns c =
     let s = c .before .before .before .before .before .before in
     let l = c .before .before .before .loop in
-    sym (every-false (λ k. record-right (s .args .s .now) (records (s .args .s .now)) (36 * k)) (records (s .args .s .now)) (l .k) (omega (arith, counted (c .before)))
+    sym (every-false (λ k. record-right (s .args .s .now) (records (s .args .s .now)) (record-bytes * k)) (records (s .args .s .now)) (l .k) (omega (arith, counted (c .before)))
     (asked (c .before) ∙ not-true (c .before .record-right .result) (c .if1 .taken)))
 
 add-k : tie.Need-add-k Inv-loop μ-loop
@@ -60,7 +61,7 @@ returns-2 : tie.Need-returns-2 Inv-loop μ-loop
 unfolding records-right
 returns-2 c =
     let s = c .before .before .before .before in
-    sym (every-true (λ k. record-right (s .args .s .now) (records (s .args .s .now)) (36 * k)) (records (s .args .s .now)) (λ k h. c .before .loop .inv .1 k (omega (arith, c .before .before .count .ensures))))
+    sym (every-true (λ k. record-right (s .args .s .now) (records (s .args .s .now)) (record-bytes * k)) (records (s .args .s .now)) (λ k h. c .before .loop .inv .1 k (omega (arith, c .before .before .count .ensures))))
 
 pub records-right-spec : {M : Type 1} → statement M
 records-right-spec =

@@ -25,8 +25,8 @@ abbrev μ-loop : tie.MeasureT-loop
 μ-loop n t i₀ i = side-count - i
 
 -- there is an event for each side
-two : (s : tie.Start Inv-loop μ-loop) → length (s .args .t1 .events) ≡ side-count
-two s = sym (length-map (s .args .t1 .events) (λ e. e)) ∙ s .good .0 .1 .1 .0 .1 .0 .1
+one-each : (s : tie.Start Inv-loop μ-loop) → length (s .args .t1 .events) ≡ side-count
+one-each s = sym (length-map (s .args .t1 .events) (λ e. e)) ∙ s .good .0 .1 .1 .0 .1 .0 .1
 
 next-fits : (s : tie.Start Inv-loop μ-loop) → s .args .t1 .next < 65536
 next-fits s = s .good .0 .1 .1 .1 .0 .1
@@ -49,7 +49,7 @@ returns c =
     let s = c .before .before .before .before .before in
     let l = c .before .before .before .before .loop in
     sym (and-false (all in-range (s .args .t1 .events)) (ltb (s .args .t1 .next) (s .args .n))
-    (all-false in-range tick (s .args .t1 .events) (l .i) (omega (arith, two s)) (asked (c .before) ∙ not-true (c .before .in-range .result) (c .if1 .taken))))
+    (all-false in-range tick (s .args .t1 .events) (l .i) (omega (arith, one-each s)) (asked (c .before) ∙ not-true (c .before .in-range .result) (c .if1 .taken))))
 
 add-i : tie.Need-add-i Inv-loop μ-loop
 add-i c = search needs
@@ -66,7 +66,7 @@ cast-result c = omega (arith, next-fits (c .before .before))
 returns-2 : tie.Need-returns-2 Inv-loop μ-loop
 returns-2 c =
     let s = c .before .before in
-    sym (ap (λ b. b && ltb (s .args .t1 .next) (s .args .n)) (all-true in-range tick (s .args .t1 .events) (λ k h. c .before .loop .inv .1 k (omega (arith, two s)))))
+    sym (ap (λ b. b && ltb (s .args .t1 .next) (s .args .n)) (all-true in-range tick (s .args .t1 .events) (λ k h. c .before .loop .inv .1 k (omega (arith, one-each s)))))
 
 pub transition-right-spec : {M : Type 1} → statement M
 transition-right-spec =

@@ -10,7 +10,7 @@ use mathlib.Core.List.{[]}
 use lib.ListN.{length}
 use Rattle.layout.specs.Designs.{design, side}
 use Rattle.layout.specs.Tests.{side-right, kinds-right}
-use Rattle.layout.proofs.DesignBytes.{sides-two}
+use Rattle.layout.proofs.DesignBytes.{sides-length}
 use Rattle.model.proofs.Lists.{all-in, getD-in}
 use Rattle.layout.proofs.Tables.{all-true, all-false}
 use borrow.Author.Needs.{needs}
@@ -30,14 +30,14 @@ side-kinds-right-requires : tie.Need-side-kinds-right-requires Inv-loop μ-loop
 side-kinds-right-requires c κs =
     let a = c .before .before .before in
     let D = design (a .args .s .now) in
-    let there : c .before .loop .i < length (design (a .args .s .now) .sides) = omega (arith, sides-two (a .args .s .now)) in
+    let there : c .before .loop .i < length (design (a .args .s .now) .sides) = omega (arith, sides-length (a .args .s .now)) in
     (a .pre .0, omega arith, all-in side-right (getD-in (D .sides) (c .before .loop .i) [] there) (a .pre .1))
 
 returns : tie.Need-returns Inv-loop μ-loop
 returns c =
     let bs = c .before .before .before .before .before .args .s .now in
     sym
-    (all-false kinds-right [] (design bs .sides) (c .before .before .before .loop .i) (omega (arith, sides-two bs))
+    (all-false kinds-right [] (design bs .sides) (c .before .before .before .loop .i) (omega (arith, sides-length bs))
     (sym (c .before .side-kinds-right .ensures) ∙ not-true (c .before .side-kinds-right .result) (c .if1 .taken)))
 
 add-i : tie.Need-add-i Inv-loop μ-loop
@@ -52,7 +52,7 @@ loop-again c = (search needs, below-more _ _ (c .before .before .before .loop .i
 returns-2 : tie.Need-returns-2 Inv-loop μ-loop
 returns-2 c =
     let bs = c .before .before .before .args .s .now in
-    sym (all-true kinds-right [] (design bs .sides) (λ j h. c .before .loop .inv .1 j (omega (arith, sides-two bs))))
+    sym (all-true kinds-right [] (design bs .sides) (λ j h. c .before .loop .inv .1 j (omega (arith, sides-length bs))))
 
 pub sides-kinds-right-spec : {M : Type 1} → statement M
 sides-kinds-right-spec =

@@ -9,7 +9,7 @@ use borrow.Author.Tests.{not-true, not-false}
 use mathlib.Core.List.{[]}
 use Rattle.layout.specs.Designs.{design, side}
 use Rattle.layout.specs.Tests.{side-right}
-use Rattle.layout.proofs.DesignBytes.{sides-two}
+use Rattle.layout.proofs.DesignBytes.{sides-length}
 use Rattle.layout.proofs.Tables.{all-true, all-false}
 use borrow.Author.Needs.{needs}
 use Rattle.refusals.proofs.design_tests.sides_right.Statement.{statement}
@@ -31,7 +31,7 @@ returns : tie.Need-returns Inv-loop μ-loop
 returns c =
     let bs = c .before .before .before .before .before .args .s .now in
     sym
-    (all-false side-right [] (design bs .sides) (c .before .before .before .loop .i) (omega (arith, sides-two bs))
+    (all-false side-right [] (design bs .sides) (c .before .before .before .loop .i) (omega (arith, sides-length bs))
     (sym (c .before .side-right .ensures) ∙ not-true (c .before .side-right .result) (c .if1 .taken)))
 
 add-i : tie.Need-add-i Inv-loop μ-loop
@@ -46,7 +46,7 @@ loop-again c = (search needs, below-more _ _ (c .before .before .before .loop .i
 returns-2 : tie.Need-returns-2 Inv-loop μ-loop
 returns-2 c =
     let bs = c .before .before .before .args .s .now in
-    sym (all-true side-right [] (design bs .sides) (λ j h. c .before .loop .inv .1 j (omega (arith, sides-two bs))))
+    sym (all-true side-right [] (design bs .sides) (λ j h. c .before .loop .inv .1 j (omega (arith, sides-length bs))))
 
 pub sides-right-spec : {M : Type 1} → statement M
 sides-right-spec =
