@@ -27,9 +27,9 @@ fn read(words: &[u8], d: &[u8], n: usize)
 
 // So many zeros.
 fn zeros(words: &[u8], n: usize)
-    requires { ⌜ n ≤ 2049 ⌝ }
+    requires { ⌜ n ≤ 2561 ⌝ }
 {
-    let d = [0u8; 2049];
+    let d = [0u8; 2561];
     read(words, &d, n);
 }
 
@@ -97,6 +97,9 @@ fn lengths() {
     zeros(b"a design of 511 bytes", 511);
     zeros(b"a design of 2047 bytes", 2047);
     zeros(b"a design of 2049 bytes", 2049);
+    zeros(b"a design of 2559 bytes", 2559);
+    zeros(b"2560 zeros", 2560);
+    zeros(b"a design of 2561 bytes", 2561);
 }
 
 fn states() {
@@ -130,8 +133,10 @@ fn formulas() {
     second_formula(b"proposition 16", 3, 16, 0);
     second_formula(b"proposition 31", 3, 31, 0);
     second_formula(b"proposition 32", 3, 32, 0);
-    second_formula(b"not proposition 31", 4, 31, 0);
-    second_formula(b"not proposition 32", 4, 32, 0);
+    second_formula(b"proposition 47", 3, 47, 0);
+    second_formula(b"proposition 48", 3, 48, 0);
+    second_formula(b"not proposition 47", 4, 47, 0);
+    second_formula(b"not proposition 48", 4, 48, 0);
     second_formula(b"kind 0", 0, 0, 0);
     second_formula(b"kind 10", 10, 0, 0);
 }

@@ -1,4 +1,4 @@
--- Specification, "Bytes": a converter file is blocks of kind 5, 14 records each, the last 1 to 14, first records 0, 14, 28 and so on. From the file to its
+-- Specification, "Bytes": a converter file is blocks of kind 5, 9 records each, the last 1 to 9, first records 0, 9, 18 and so on. From the file to its
 -- records, and from records to the file.
 use mathlib.Core.Bool.{cond}
 use mathlib.Core.List.{List, flatten}

@@ -115,7 +115,7 @@ pub fn rows() {
     );
     mended(b"F without its last byte", &tables::F[..107], 70, 0);
     mended(b"a converter of 0 bytes", &tables::F[..0], 70, 0);
-    mended(b"F without its last record", &tables::F[..72], 70, 0);
+    mended(b"F without its last record", &tables::F[..104], 70, 0);
     open_fork();
     in_step(
         b"lock and menu, 3 and AX 19",

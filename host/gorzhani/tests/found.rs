@@ -4,6 +4,8 @@
 #[path = "../../checker/tests/samples/mod.rs"]
 mod samples;
 
+use std::collections::BTreeSet;
+
 use checker::brute::{try_all, Outcome};
 use checker::bytes::{positions, read_converter_memory, Design, Formula, Record};
 use checker::generate::{ruled_design, Random, Shape};
@@ -55,16 +57,14 @@ fn records_are_reached_breadth_first() {
 }
 
 #[test]
-fn without_rules_each_pair_has_one_record() {
+fn without_rules_each_joint_state_has_one_record() {
     let mut random = Random::new(502);
     for _ in 0..500 {
         let mut made = ruled_design(&mut random, &Shape::SMALL);
         (made.formulas, made.rules) = (vec![], vec![]);
         let converter = found(&made).expect("with no rules a converter exists");
-        let mut pairs: Vec<_> = converter.iter().map(|record| record.states).collect();
-        pairs.sort_unstable();
-        pairs.dedup();
-        assert_eq!(pairs.len(), converter.len());
+        let named: BTreeSet<_> = converter.iter().map(|record| record.states).collect();
+        assert_eq!(named.len(), converter.len());
     }
 }
 
@@ -73,7 +73,7 @@ fn the_rows_get_the_fewest_records() {
     // As many as the paper's converter has.
     let count = |made: &Design| found(made).expect("a converter exists").len();
     assert_eq!(count(&ruled_handshake(false)), figure_five().len());
-    // One for each pair that is reached: two in turn; h0, and one of h1 and h2.
+    // One for each joint state that is reached: two in turn; h0, and one of h1 and h2.
     assert_eq!(count(&ticking_in_turn()), 2);
     let mut formulas = next_sixteen_next_seventeen();
     formulas.push(Formula::Or(2, 3));
