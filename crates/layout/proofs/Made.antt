@@ -1,4 +1,4 @@
--- A record that is made of another's transitions, one by one: what it has after k of them, and that no event pair of a right record is found present.
+-- A record that is made of another's transitions, one by one: what it has after k of them, and that no events of a right record is found present.
 use mathlib.Core.Path.{_≡_, refl, sym, ap, subst, _∙_}
 use mathlib.Core.Bool.{Bool, true, false, not, _&&_, false≢true}
 use mathlib.Core.List.{List}

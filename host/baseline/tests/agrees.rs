@@ -94,7 +94,7 @@ fn larger_searches() {
     let mut answers = [0; 18];
     let mut round = 0;
     while round < 150 {
-        let shape = Shape { states: 16, transitions: 4, propositions: 3, formulas: 24, rules: 5 };
+        let shape = Shape { transitions: 4, propositions: 3, formulas: 24, rules: 5, ..Shape::FULL };
         let made = ruled_design(&mut random, &shape);
         let size = positions(&made);
         if !(4_096..=65_536).contains(&size) {

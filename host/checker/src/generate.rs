@@ -70,6 +70,9 @@ impl Random {
 /// How large a random design may be.
 #[derive(Clone, Copy, Debug)]
 pub struct Shape {
+    /// How many sides there are to a design and to its formulas: with two, the third is idle
+    /// and no formula names a label of it.
+    pub sides: usize,
     /// The most states of a side.
     pub states: usize,
     /// The most transitions of an input state.
@@ -85,13 +88,13 @@ pub struct Shape {
 impl Shape {
     /// Small enough to try every converter of three records.
     pub const TINY: Shape =
-        Shape { states: 2, transitions: 2, propositions: 2, formulas: 7, rules: 2 };
+        Shape { sides: SIDES, states: 2, transitions: 2, propositions: 2, formulas: 7, rules: 2 };
     /// A few states and formulas.
     pub const SMALL: Shape =
-        Shape { states: 4, transitions: 3, propositions: 3, formulas: 12, rules: 3 };
+        Shape { states: 4, transitions: 3, propositions: 3, formulas: 12, rules: 3, ..Shape::TINY };
     /// As much as a design holds.
     pub const FULL: Shape =
-        Shape { states: 16, transitions: 8, propositions: 16, formulas: 64, rules: 16 };
+        Shape { sides: SIDES, states: 16, transitions: 8, propositions: 16, formulas: 64, rules: 16 };
 }
 
 /// A well-formed design, mostly a small one.
@@ -147,7 +150,7 @@ pub fn sides(random: &mut Random, shape: &Shape) -> [Vec<State>; SIDES] {
 
 /// The third side of a design.
 fn third_side(random: &mut Random, shape: &Shape) -> Vec<State> {
-    if random.once_in(4) {
+    if shape.sides < SIDES || random.once_in(4) {
         return idle_side();
     }
     let states = random.from_to(1, shape.states);
@@ -217,7 +220,7 @@ pub fn formulas(random: &mut Random, shape: &Shape, count: usize) -> Vec<Formula
 
 /// A label of any side, as formulas name it.
 fn any_proposition(random: &mut Random, shape: &Shape) -> u8 {
-    proposition(random.below(SIDES), random.below(shape.propositions))
+    proposition(random.below(shape.sides), random.below(shape.propositions))
 }
 
 /// Formula `number`.

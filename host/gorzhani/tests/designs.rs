@@ -168,7 +168,7 @@ fn tiny_designs_against_every_small_converter() {
 fn large() {
     let mut random = Random::new(105);
     let mut answers = Answers::default();
-    let shape = Shape { states: 16, transitions: 4, propositions: 6, formulas: 24, rules: 5 };
+    let shape = Shape { transitions: 4, propositions: 6, formulas: 24, rules: 5, ..Shape::FULL };
     while answers.total() < 100 {
         let made = ruled_design(&mut random, &shape);
         if (4_097..=65_536).contains(&positions(&made)) {

@@ -44,7 +44,7 @@ fn random_designs() {
 fn large_designs() {
     let mut random = Random::new(402);
     let mut answers = Answers::default();
-    let shape = Shape { states: 16, transitions: 4, propositions: 6, formulas: 24, rules: 5 };
+    let shape = Shape { transitions: 4, propositions: 6, formulas: 24, rules: 5, ..Shape::FULL };
     while answers.total() < 300 {
         let made = ruled_design(&mut random, &shape);
         if (4_097..=65_536).contains(&positions(&made)) {
