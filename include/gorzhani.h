@@ -28,9 +28,9 @@
 extern "C" {
 #endif
 
-/* A design has five blocks, of kinds 1 (the kernel), 2 (the host), 6 (the third side), 3 (formulas) and 4 (rules), or four where the third side has none: that
- * is then one ticking state without labels. Formulas name the kernel's labels as 0 to 15, the host's as 16 to 31 and the third side's as 32 to 47. Where a
- * runner or a tick says first, second and third, these are the kernel, the host and the third side. */
+/* A design has five blocks, of kinds 1 (the kernel), 2 (the host), 6 (the third side), 3 (formulas) and 4 (rules), or four where the third side has no
+ * block: it is then one ticking state without labels. Formulas name the kernel's labels as 0 to 15, the host's as 16 to 31 and the third side's as 32 to 47,
+ * of which none holds in a design of four blocks. Where a runner or a tick says first, second and third, these are the kernel, the host and the third side. */
 
 /* Sizes in bytes, and the records of a block. */
 enum {

@@ -82,6 +82,38 @@ fn one_byte(words: &[u8], at: usize, v: u8)
     whole(words, &d);
 }
 
+// H and a third side of one state, whose transition has this event, with a byte changed.
+fn third_side(words: &[u8], event: i8, at: usize, v: u8)
+    requires { ⌜ at < 2560 ⌝ }
+{
+    let mut service = tables::TICKING;
+    service[4] = layout::events::to_byte(event);
+    let none = [0u8; 0];
+    let mut d = [0u8; 2560];
+    designs::design_of_three(
+        &mut d,
+        &tables::H_KERNEL,
+        &tables::H_HOST,
+        &service,
+        &none,
+        &none,
+    );
+    d[at] = v;
+    blocks::seal(&mut d, 512 * (at / 512));
+    read(words, &d, 2560);
+}
+
+fn third_sides() {
+    third_side(b"H and a third side", 0, 1024, 6);
+    third_side(b"a third side of kind 5", 0, 1024, 5);
+    third_side(b"a third side of 0 states", 0, 1025, 0);
+    third_side(b"a third side of 17 states", 0, 1025, 17);
+    third_side(b"a third side that sends -63", -63, 1024, 6);
+    third_side(b"a third side that sends -64", -64, 1024, 6);
+    third_side(b"byte 3 of its state", 0, 1031, 1);
+    third_side(b"formulas of kind 6", 0, 1536, 6);
+}
+
 // Of a design with a wrong check and a wrong kind the check wins.
 fn two_faults() {
     let mut d = [0u8; 2048];
@@ -147,5 +179,6 @@ fn main() {
     states();
     two_faults();
     changed();
+    third_sides();
     formulas();
 }

@@ -39,7 +39,7 @@ file-blocks bs = table (blocks bs) (file-block (blocks bs))
 unfoldable pub file-count : List ℕ → ℕ
 file-count bs = block-records * (blocks bs - 1) + record-count bs (file-block (blocks bs) (blocks bs - 1))
 
--- where byte i of the records stands: 504 of them to a block, from its byte 4 on
+-- where byte i of the records stands: 468 of them to a block, from its byte 4 on
 abbrev pub file-place : ℕ → ℕ
 file-place i = block-bytes * (i / block-record-bytes) + records-in-block + i % block-record-bytes
 

@@ -58,10 +58,10 @@ rule-bytes = 1
 abbrev pub record-bytes : ℕ
 record-bytes = 52
 
--- a converter record has its count behind the names
 abbrev pub count-at : ℕ
 count-at = 2
 
+-- a converter record has its count behind the names
 abbrev pub edge-count-at : ℕ
 edge-count-at = side-count
 

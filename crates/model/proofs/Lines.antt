@@ -102,7 +102,7 @@ module _ (Ss : List Side) (wf : (S : Side) → In S Ss → WellFormedSide S) (n 
 -- ---- each line, of three sides
 -- a choice of three is one of each
 module _ (k l m : Kind) where
-  abbrev ThreeChose : (x y z : Bool) → List Event → Type 0
+  abbrev pub ThreeChose : (x y z : Bool) → List Event → Type 0
   ThreeChose x y z es = (k ≡ delayed → Does x (event-of 0 es)) × (l ≡ delayed → Does y (event-of 1 es)) × (m ≡ delayed → Does z (event-of 2 es))
 
   three-chose : (x y z : Bool) (es : List Event) → AsChosen (k ∷ l ∷ m ∷ []) (x ∷ y ∷ z ∷ []) es ↔ ThreeChose x y z es
@@ -131,7 +131,7 @@ module _ (S R Q : Side) (wS : WellFormedSide S) (wR : WellFormedSide R) (wQ : We
     (hs : Names (S ∷ R ∷ Q ∷ []) (n .names)) (follows : Follows (S ∷ R ∷ Q ∷ []) n)
     (k l m : Kind) (hk : IsKind k s (state S s)) (hl : IsKind l r (state R r)) (hm : IsKind m q (state Q q)) where
   -- what the node owes
-  abbrev Owed : Type 0
+  abbrev pub Owed : Type 0
   Owed = Fulfils (duty (kinds-of (S ∷ R ∷ Q ∷ []) (n .names))) (S ∷ R ∷ Q ∷ []) n
 
   each-formed : (X : Side) → In X (S ∷ R ∷ Q ∷ []) → WellFormedSide X
@@ -145,7 +145,7 @@ module _ (S R Q : Side) (wS : WellFormedSide S) (wR : WellFormedSide R) (wQ : We
   owed = Iff·symm (lines-ask (S ∷ R ∷ Q ∷ []) each-formed n (k ∷ l ∷ m ∷ []) hs (rw named (cons hk (cons hl (cons hm nil)))) follows)
 
   -- every choice of three moves is enabled
-  abbrev EveryThree : Type 0
+  abbrev pub EveryThree : Type 0
   EveryThree = (x y z : Move) → In x (state S s .moves) → In y (state R r .moves) → In z (state Q q .moves) → Enabled n (x .event ∷ y .event ∷ z .event ∷ [])
 
   of-three-moves : EveryThree → {ms : List Move} → MoveOfEach (S ∷ R ∷ Q ∷ []) (s ∷ r ∷ q ∷ []) ms → Enabled n (events ms)

@@ -236,7 +236,7 @@ four-choices = design-of-three (staying (tick ∷ minus 1 ∷ [])) (staying (plu
 abbrev alone : List Edge → Converter
 alone es = at-three 0 0 0 es ∷ []
 
--- one transition for each choice; without the last of them; with one more
+-- one transition for each choice; without the first of them; with one more
 abbrev three-of-four : List Edge
 three-of-four = triple tick (minus 1) tick 0 ∷ triple (plus 1) (minus 2) tick 0 ∷ triple tick (minus 2) (plus 3) 0 ∷ []
 

@@ -36,6 +36,16 @@ pub const MENU: [u8; 40] = *b"\
     \0\0\x01\0\0\x01\0\0\0\0\0\0\0\0\0\0\0\0\0\0\
     \x08\0\x01\0\0\0\0\0\0\0\0\0\0\0\0\0\0\0\0\0";
 
+// One state that ticks or sends 1, one that sends 2 or ticks, and one that sends 3 or ticks.
+pub const SENDS_1: [u8; 20] = *b"\0\0\x02\0\0\0\xff\0\0\0\0\0\0\0\0\0\0\0\0\0";
+
+pub const SENDS_2: [u8; 20] = *b"\0\0\x02\0\xfe\0\0\0\0\0\0\0\0\0\0\0\0\0\0\0";
+
+pub const SENDS_3: [u8; 20] = *b"\0\0\x02\0\xfd\0\0\0\0\0\0\0\0\0\0\0\0\0\0\0";
+
+// One state that reads 1 or 2.
+pub const READS: [u8; 20] = *b"\0\0\x02\0\x01\0\x02\0\0\0\0\0\0\0\0\0\0\0\0\0";
+
 // ---- formulas, four bytes each: the kind, two operands, 0
 
 // The paper's four rules for H, a line to a rule: AG(not p or not q or AX(r or t)) is the nine formulas not p, not q, their or x, r, t, their or y, AX y, x or AX y,
@@ -125,3 +135,23 @@ pub const FORK_OPEN: [u8; 156] = *b"\
 pub const IN_STEP: [u8; 104] = *b"\
     \0\0\0\x01\0\0\0\0\x01\0\0\0\0\0\0\0\0\0\0\0\0\0\0\0\0\0\0\0\0\0\0\0\0\0\0\0\0\0\0\0\0\0\0\0\0\0\0\0\0\0\0\0\
     \x01\x01\0\x01\0\0\0\0\0\0\0\0\0\0\0\0\0\0\0\0\0\0\0\0\0\0\0\0\0\0\0\0\0\0\0\0\0\0\0\0\0\0\0\0\0\0\0\0\0\0\0\0";
+
+// One record for the states that send 1, read, and send 3: a transition for each choice of those that send.
+pub const FOUR_CHOICES: [u8; 52] = *b"\0\0\0\x04\
+    \0\xff\0\0\0\0\x01\xfe\0\0\0\0\0\xfe\x03\0\0\0\x01\xff\x03\0\0\0\
+    \0\0\0\0\0\0\0\0\0\0\0\0\0\0\0\0\0\0\0\0\0\0\0\0";
+
+// The same without the last.
+pub const THREE_CHOICES: [u8; 52] = *b"\0\0\0\x03\
+    \0\xff\0\0\0\0\x01\xfe\0\0\0\0\0\xfe\x03\0\0\0\0\0\0\0\0\0\
+    \0\0\0\0\0\0\0\0\0\0\0\0\0\0\0\0\0\0\0\0\0\0\0\0";
+
+// One record for the three states that send: all eight joint moves.
+pub const ALL_EIGHT: [u8; 52] = *b"\0\0\0\x08\
+    \0\0\0\0\0\0\x01\0\0\0\0\0\0\x02\0\0\0\0\x01\x02\0\0\0\0\
+    \0\0\x03\0\0\0\x01\0\x03\0\0\0\0\x02\x03\0\0\0\x01\x02\x03\0\0\0";
+
+// The same without the last.
+pub const SEVEN: [u8; 52] = *b"\0\0\0\x07\
+    \0\0\0\0\0\0\x01\0\0\0\0\0\0\x02\0\0\0\0\x01\x02\0\0\0\0\
+    \0\0\x03\0\0\0\x01\0\x03\0\0\0\0\x02\x03\0\0\0\0\0\0\0\0\0";

@@ -7,7 +7,7 @@ use row_parts::lines;
 use row_parts::tables;
 
 // The judge's answer as a number, with so many of the lent bytes.
-fn answer(d: &[u8; 2048], converter: &[u8], lent: &mut [u8], room: usize) -> u64
+fn answer(d: &[u8], converter: &[u8], lent: &mut [u8], room: usize) -> u64
     requires { ⌜ room ≤ length (now lent) ⌝ }
 {
     let v = judge::judge(d, converter, &mut lent[0..room]);
@@ -22,7 +22,7 @@ fn same(a: &[u8; 70], b: &[u8; 70]) -> bool {
 }
 
 // The answer, and whether the work is left as it should be: 7 everywhere at first, then 0 in so many bytes.
-fn judged(words: &[u8], d: &[u8; 2048], converter: &[u8], room: usize, cleared: usize)
+fn judged(words: &[u8], d: &[u8], converter: &[u8], room: usize, cleared: usize)
     requires { ⌜ (room ≤ 70) × (cleared ≤ 70) ⌝ }
 {
     let mut lent = [7u8; 70];
@@ -83,6 +83,44 @@ fn in_step(words: &[u8], formulas: &[u8], rules: &[u8])
     judged(words, &d, &tables::IN_STEP, 70, 32);
 }
 
+// One record for three sides of one state each, without rules. The kernel ticks or sends 1, the third side sends 3 or ticks.
+fn one_record(words: &[u8], host: &[u8; 20], converter: &[u8; 52]) {
+    let none = [0u8; 0];
+    let mut d = [0u8; 2560];
+    designs::design_of_three(
+        &mut d,
+        &tables::SENDS_1,
+        host,
+        &tables::SENDS_3,
+        &none,
+        &none,
+    );
+    judged(words, &d, converter, 70, 16);
+}
+
+fn three_sides() {
+    one_record(
+        b"two delayed and one input, a transition for each of four choices",
+        &tables::READS,
+        &tables::FOUR_CHOICES,
+    );
+    one_record(
+        b"the same without the last",
+        &tables::READS,
+        &tables::THREE_CHOICES,
+    );
+    one_record(
+        b"three delayed, all eight joint moves",
+        &tables::SENDS_2,
+        &tables::ALL_EIGHT,
+    );
+    one_record(
+        b"the same without the last",
+        &tables::SENDS_2,
+        &tables::SEVEN,
+    );
+}
+
 // A design that 9 keeps from the search is judged.
 fn too_large_to_search() {
     let none = [0u8; 0];
@@ -113,7 +151,7 @@ pub fn rows() {
         70,
         64,
     );
-    mended(b"F without its last byte", &tables::F[..107], 70, 0);
+    mended(b"F without its last byte", &tables::F[..155], 70, 0);
     mended(b"a converter of 0 bytes", &tables::F[..0], 70, 0);
     mended(b"F without its last record", &tables::F[..104], 70, 0);
     open_fork();
@@ -124,6 +162,7 @@ pub fn rows() {
     );
     in_step(b"lock and menu, 19", &tables::MENU_NOW, &[0]);
     in_step(b"lock and menu, AX 3", &tables::LOCK_NEXT, &[1]);
+    three_sides();
     too_large_to_search();
     mended(b"F, 47 bytes of work", &tables::F, 47, 0);
 }

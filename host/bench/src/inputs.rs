@@ -99,7 +99,7 @@ fn end_of(side: usize) -> u8 {
 
 /// Rings of so many states, and rules that keep so many formulas: again and again all are at
 /// their ends, if there is an until; and the last is while the first isn't, if there are two;
-/// and "in two ticks' time" for the others.
+/// and "now or at the next tick" for the others.
 fn grid(counts: &[usize], kept: usize, untils: usize) -> Design {
     let mut formulas = all_at_their_ends(counts.len());
     let mut rules = Vec::new();

@@ -103,6 +103,17 @@ fn no_converter() {
     assert_eq!(written(&[&samples::handshake(formulas, vec![2]).to_bytes()]), b"refused 16\n");
 }
 
+/// The program has room for 1,152 positions. The next number that can be one is 1,155.
+#[test]
+fn positions_that_fit() {
+    let ring = |states: u8| {
+        (0..states).map(|own| samples::state(&[], &[(0, (own + 1) % states)])).collect::<Vec<_>>()
+    };
+    let made = |counts: [u8; 3]| samples::design(counts.map(ring), vec![], vec![]).to_bytes();
+    assert_eq!(convert_agrees(&made([16, 9, 8])), 0);
+    assert_eq!(written(&[&made([15, 11, 7])]), b"refused 12\n");
+}
+
 #[test]
 fn lengths() {
     let sound = design(&mut Random::new(110), &Shape::SMALL).to_five_blocks();

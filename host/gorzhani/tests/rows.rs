@@ -175,11 +175,38 @@ fn a_third_side_breaks_a_two_sided_verdict() {
     assert_eq!((positions(&alone), searched(&alone)), (16, 0));
     assert_eq!((positions(&prompt), searched(&prompt)), (32, 0));
     assert_eq!((positions(&waiting), searched(&waiting)), (32, 16));
+    // One picture is enough, at a time when 32 doesn't hold.
+    let designs = [&alone, &prompt, &waiting];
+    for (design, answer) in designs.into_iter().zip([(4, 0), (8, 0), (8, 16)]) {
+        let formulas = vec![
+            Formula::True,
+            Formula::Proposition(16),
+            Formula::NotProposition(32),
+            Formula::And(1, 2),
+            Formula::Until(0, 3),
+        ];
+        let once = Design { formulas, rules: vec![4], ..design.clone() };
+        assert_eq!((positions(&once), searched(&once)), answer);
+    }
     // A converter with zeros for the third side doesn't let it send.
     let converter = found(&alone.to_bytes()).expect("nothing is in the way");
     let work = CELL * (converter.len() / RECORD);
     for (design, answer) in [(alone, 0), (prompt, 14), (waiting, 14)] {
         assert_eq!(judge_agrees(&design.to_bytes(), &converter, work), answer);
+    }
+}
+
+/// Record 0 names state 0 of every side, and a tick leads where the next record says.
+#[test]
+fn three_names_are_compared() {
+    let side = vec![state(&[], &[(0, 0)]), state(&[], &[(0, 1)])];
+    let made = design([side.clone(), side.clone(), side], vec![], vec![]);
+    let staying = |states: [u8; SIDES], next: u16| record(states, &[([0; SIDES], next)]);
+    assert_eq!(judged(&made, &[staying([0; SIDES], 0)]), 0);
+    for states in [[1, 0, 0], [0, 1, 0], [0, 0, 1]] {
+        assert_eq!(judged(&made, &[staying(states, 0)]), 14);
+        assert_eq!(judged(&made, &[staying([0; SIDES], 0), staying(states, 1)]), 0);
+        assert_eq!(judged(&made, &[staying([0; SIDES], 1), staying(states, 1)]), 14);
     }
 }
 
