@@ -94,7 +94,8 @@ fn larger_searches() {
     let mut answers = [0; 18];
     let mut round = 0;
     while round < 150 {
-        let shape = Shape { transitions: 4, propositions: 3, formulas: 24, rules: 5, ..Shape::FULL };
+        let shape =
+            Shape { transitions: 4, propositions: 3, formulas: 24, rules: 5, ..Shape::FULL };
         let made = ruled_design(&mut random, &shape);
         let size = positions(&made);
         if !(4_096..=65_536).contains(&size) {
@@ -195,7 +196,8 @@ fn files() {
         if round % 2 == 0 {
             damage(&mut random, &mut file);
         }
-        let length = about(&mut random, RECORD_BYTES * BLOCK_RECORDS * file.len().div_ceil(BLOCK_BYTES));
+        let length =
+            about(&mut random, RECORD_BYTES * BLOCK_RECORDS * file.len().div_ceil(BLOCK_BYTES));
         let (mut memory, mut other_memory) = (pattern(length), pattern(length));
         let answer = baseline::read(&file, &mut memory);
         assert_eq!(answer, read_blocks(&file, &mut other_memory));

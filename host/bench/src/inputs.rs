@@ -22,7 +22,10 @@ pub fn searched(sizes: usize) -> Vec<(&'static str, Vec<Vec<Design>>)> {
     vec![
         ("16 by 16 states, an until", kept(&[2, 4, 6, 8], &|kept| grid(&[16; 2], kept, 1))),
         ("16 by 16 states, no until", kept(&[2, 4, 6, 8], &|kept| grid(&[16; 2], kept, 0))),
-        ("16 by 16 states, an until, 64 joint moves", kept(&[2, 4, 6, 8], &|kept| crowded(2, kept))),
+        (
+            "16 by 16 states, an until, 64 joint moves",
+            kept(&[2, 4, 6, 8], &|kept| crowded(2, kept)),
+        ),
         ("4 by 4 states, an until", kept(&[6, 8, 10, 12], &|kept| grid(&[4; 2], kept, 1))),
         ("1 by 1 state, rules that are true", kept(&[10, 12, 14, 16], &trivial)),
         (

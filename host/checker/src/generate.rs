@@ -93,8 +93,14 @@ impl Shape {
     pub const SMALL: Shape =
         Shape { states: 4, transitions: 3, propositions: 3, formulas: 12, rules: 3, ..Shape::TINY };
     /// As much as a design holds.
-    pub const FULL: Shape =
-        Shape { sides: SIDES, states: 16, transitions: 8, propositions: 16, formulas: 64, rules: 16 };
+    pub const FULL: Shape = Shape {
+        sides: SIDES,
+        states: 16,
+        transitions: 8,
+        propositions: 16,
+        formulas: 64,
+        rules: 16,
+    };
 }
 
 /// A well-formed design, mostly a small one.
