@@ -17,6 +17,9 @@ pub const LAST_PROPOSITION: usize = SIDE_LABELS * SIDES - 1;
 // Transition places of a state, and of a converter record.
 pub const PLACES: usize = 8;
 
+// The states of all sides.
+pub const ALL_STATES: usize = MOST_STATES * SIDES;
+
 // Joint states, joint moves of one of them, and what these show: a send or none of each side.
 pub const MOST_JOINTS: usize = 4096;
 
