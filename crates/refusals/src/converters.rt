@@ -16,7 +16,6 @@ ghost use Rattle.refusals.specs.Refusals.{size-right, record-right, reco
 use layout::events;
 use layout::ranges;
 use layout::records;
-use layout::records::Outcome;
 use layout::records::Record;
 use layout::records::Transition;
 use layout::sizes;
@@ -105,8 +104,7 @@ fn transition_right(t: Transition, n: usize) -> bool
     (t.next as usize) < n
 }
 
-// Whether a record by itself is right, among n (11): its transitions are added one by one to a record that has none, so that events
-// that stand twice are found present.
+// Whether a record by itself is right, among n (11).
 fn node_right(r: Record, n: usize) -> bool
     ensures { λ b. ⌜ b ≡ node-right n (node-of r) ⌝ }
 {
@@ -121,20 +119,24 @@ fn node_right(r: Record, n: usize) -> bool
     if sizes::PLACES < count {
         return false;
     }
-    let mut made = Record::new(names);
     let mut k = 0;
-    // The first k transitions are right, and `made` has them.
+    // The first k transitions are right, and no events stand twice among them.
     while k < count {
         let t = r.places[k];
         if !transition_right(t, n) {
             return false;
         }
-        let addition = made.add(t);
-        let outcome = addition.outcome;
-        let Outcome::Added = outcome else {
-            return false;
+        let seen = k as u8;
+        let places = r.places;
+        let before = Record {
+            names: names,
+            count: seen,
+            places: places,
         };
-        made = addition.left;
+        let events = t.events;
+        if before.has(events) {
+            return false;
+        }
         k += 1;
     }
     true
