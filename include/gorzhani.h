@@ -59,7 +59,7 @@ enum {
  * Where a program finds these two at their first call alone (lazy binding), its loader takes about 3 KiB beside at that call. */
 enum {
     GORZHANI_POSITIONS_STACK = 1024,
-    GORZHANI_SEARCH_STACK = 6144,
+    GORZHANI_SEARCH_STACK = 8192,
     GORZHANI_JUDGE_STACK = 1024,
     GORZHANI_WRITE_STACK = 1024,
     GORZHANI_READ_STACK = 1024,

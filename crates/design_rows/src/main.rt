@@ -82,6 +82,18 @@ fn one_byte(words: &[u8], at: usize, v: u8)
     whole(words, &d);
 }
 
+// The same of a design of five blocks.
+fn change_of_five(d: &mut [u8; 2560], at: usize, v: u8)
+    requires { ⌜ at < 2560 ⌝ }
+{
+    d[at] = v;
+    blocks::seal(d, 512 * (at / 512));
+}
+
+fn whole_of_five(words: &[u8], d: &[u8; 2560]) {
+    read(words, d, 2560);
+}
+
 // H and a third side of one state, whose transition has this event, with a byte changed.
 fn third_side(words: &[u8], event: i8, at: usize, v: u8)
     requires { ⌜ at < 2560 ⌝ }
@@ -98,9 +110,8 @@ fn third_side(words: &[u8], event: i8, at: usize, v: u8)
         &none,
         &none,
     );
-    d[at] = v;
-    blocks::seal(&mut d, 512 * (at / 512));
-    read(words, &d, 2560);
+    change_of_five(&mut d, at, v);
+    whole_of_five(words, &d);
 }
 
 fn third_sides() {

@@ -32,6 +32,19 @@ fn judged(words: &[u8], d: &[u8], converter: &[u8], room: usize, cleared: usize)
     lines::yes_or_no(b"  work as promised", same(&expected, &lent));
 }
 
+// The same of a design of four blocks, and of five.
+fn four_blocks(words: &[u8], d: &[u8; 2048], converter: &[u8], room: usize, cleared: usize)
+    requires { ⌜ (room ≤ 70) × (cleared ≤ 70) ⌝ }
+{
+    judged(words, d, converter, room, cleared);
+}
+
+fn five_blocks(words: &[u8], d: &[u8; 2560], converter: &[u8], room: usize, cleared: usize)
+    requires { ⌜ (room ≤ 70) × (cleared ≤ 70) ⌝ }
+{
+    judged(words, d, converter, room, cleared);
+}
+
 // A converter of the handshake pair against the paper's four rules.
 fn four(words: &[u8], rules: &[u8; 144], converter: &[u8], room: usize, cleared: usize)
     requires { ⌜ (room ≤ 70) × (cleared ≤ 70) ⌝ }
@@ -44,7 +57,7 @@ fn four(words: &[u8], rules: &[u8; 144], converter: &[u8], room: usize, cleared:
         rules,
         &tables::FOUR,
     );
-    judged(words, &d, converter, room, cleared);
+    four_blocks(words, &d, converter, room, cleared);
 }
 
 // And with the fourth mended.
@@ -65,7 +78,7 @@ fn open_fork() {
         &tables::EITHER,
         &rules,
     );
-    judged(
+    four_blocks(
         b"both inputs of h0, (AX 16) or (AX 17)",
         &d,
         &tables::FORK_OPEN,
@@ -80,7 +93,7 @@ fn in_step(words: &[u8], formulas: &[u8], rules: &[u8])
 {
     let mut d = [0u8; 2048];
     designs::design(&mut d, &tables::LOCK, &tables::MENU, formulas, rules);
-    judged(words, &d, &tables::IN_STEP, 70, 32);
+    four_blocks(words, &d, &tables::IN_STEP, 70, 32);
 }
 
 // One record for three sides of one state each, without rules. The kernel ticks or sends 1, the third side sends 3 or ticks.
@@ -95,7 +108,7 @@ fn one_record(words: &[u8], host: &[u8; 20], converter: &[u8; 52]) {
         &none,
         &none,
     );
-    judged(words, &d, converter, 70, 16);
+    five_blocks(words, &d, converter, 70, 16);
 }
 
 fn three_sides() {
@@ -132,7 +145,7 @@ fn too_large_to_search() {
         &tables::UNTILS,
         &none,
     );
-    judged(b"F, 196608 positions", &d, &tables::F, 48, 48);
+    four_blocks(b"F, 196608 positions", &d, &tables::F, 48, 48);
 }
 
 pub fn rows() {

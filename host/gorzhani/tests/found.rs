@@ -80,12 +80,13 @@ fn the_rows_get_the_fewest_records() {
     assert_eq!(count(&two_inputs(formulas, vec![4])), 2);
 }
 
-#[test]
-fn close_to_the_smallest() {
+/// Tiny designs of so many sides: how many records are found in all, how many would be
+/// enough, and how many of the converters are as small as can be.
+fn beside_the_smallest(sides: usize, designs: usize) -> [usize; 3] {
     let mut random = Random::new(503);
     let (mut tried, mut ours, mut smallest, mut equal) = (0, 0, 0, 0);
-    while tried < 1_000 {
-        let made = ruled_design(&mut random, &Shape::TINY);
+    while tried < designs {
+        let made = ruled_design(&mut random, &Shape { sides, ..Shape::TINY });
         // The smallest are tried first.
         let Outcome::Found(least) = try_all(&made, 2_000) else {
             continue;
@@ -98,8 +99,16 @@ fn close_to_the_smallest() {
         equal += usize::from(count == least.len());
     }
     assert!(smallest > tried, "the designs are too small to tell");
-    assert!(20 * equal > 19 * tried, "{equal} of {tried} are as small as can be");
-    assert!(100 * ours < 103 * smallest, "{ours} records where {smallest} are enough");
+    [ours, smallest, equal]
+}
+
+#[test]
+fn close_to_the_smallest() {
+    for (sides, most, least) in [(2, 103, 960), (3, 104, 930)] {
+        let [ours, smallest, equal] = beside_the_smallest(sides, 1_000);
+        assert!(equal > least, "{equal} of 1,000 are as small as can be");
+        assert!(100 * ours < most * smallest, "{ours} records where {smallest} are enough");
+    }
 }
 
 /// The converter with record `gone` left out and `kept` in its place, with the
