@@ -1,6 +1,6 @@
 -- What stands in a design's bytes, in terms of the decoded design: counts, states, formulas and rules by number.
 use mathlib.Core.Path.{_≡_, refl, sym, ap, _∙_}
-use mathlib.Core.Bool.{Bool, true, false, cond}
+use mathlib.Core.Bool.{Bool, cond}
 use mathlib.Core.List.{List, []}
 use Prim.Native.Nat.{ℕ, zero, suc, _+_, _*_, _≤_, _<_}
 use native.Mathlib.Omega.{arith}
@@ -10,7 +10,6 @@ use lib.ListN.{length, getD}
 use Rattle.model.specs.Sides.{Side, state, no-state}
 use Rattle.model.specs.Formulas.{truth}
 use Rattle.model.specs.Resting.{resting}
-use Rattle.layout.specs.declared.states.StateRecord.{StateRecord}
 use Rattle.layout.specs.Sizes.{side-count, block-bytes, state-bytes, records-in-block}
 use Rattle.layout.specs.Tables.{table, table-from}
 use Rattle.layout.specs.Bytes.{byte}

@@ -1,8 +1,6 @@
 -- `designs::rule` meets its contract.
 use mathlib.Core.Path.{ap, _∙_}
-use Prim.Native.Nat.{_+_}
 use native.Mathlib.Omega.{arith}
-use Rattle.layout.specs.Sizes.{records-in-block}
 use Rattle.layout.specs.Bytes.{byte}
 use Rattle.layout.proofs.DesignBytes.{stored-rule-is}
 use borrow.Author.Needs.{needs}

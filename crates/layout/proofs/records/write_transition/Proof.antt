@@ -1,5 +1,5 @@
 -- `records::write_transition` meets its contract: the events, a zero, and the next record.
-use mathlib.Core.Path.{_≡_, ap, _∙_}
+use mathlib.Core.Path.{ap, _∙_}
 use mathlib.Core.List.{[], _∷_, _++_, append-assoc}
 use Prim.Native.Nat.{_+_}
 use native.Mathlib.Omega.{arith}
@@ -29,7 +29,10 @@ write-word-requires : tie.Need-write-word-requires
 write-word-requires c κs = simp length-set (search needs)
 
 same-length : tie.Need-same-length
-same-length c = let told = c .before .before .before .before .before .before in c .before .before .write-word .kept .0 ∙ length-set (told .write-events .last .0) _ 0 ∙ told .write-events .kept .0
+same-length c =
+    let worded = c .before .before in
+    let told = worded .before .before .before .before in
+    worded .write-word .kept .0 ∙ length-set (told .write-events .last .0) _ 0 ∙ told .write-events .kept .0
 
 returns : tie.Need-returns
 returns c =

@@ -7,7 +7,7 @@ use native.Mathlib.Omega.{arith}
 use borrow.Author.Count.{below-more}
 use borrow.Author.Tests.{eq-eqb, ne-eqb}
 use lib.Dec.{eqb}
-use lib.ListN.{length, getD}
+use lib.ListN.{length}
 use Rattle.layout.specs.Sizes.{side-count, places-at, transition-bytes}
 use Rattle.layout.specs.Bytes.{byte, all-zero}
 use Rattle.layout.specs.Unused.{place-gaps}

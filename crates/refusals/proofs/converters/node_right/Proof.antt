@@ -1,14 +1,14 @@
 -- `converters::node_right` meets its contract. The invariant: the first k transitions are right, and no events stand twice among them.
 use mathlib.Core.Path.{_≡_, sym, ap, subst, _∙_}
 use mathlib.Core.Bool.{true, false≢true}
-use Prim.Native.Nat.{ℕ, _+_, _-_, _≤_, _<_}
+use Prim.Native.Nat.{_-_, _≤_, _<_}
 use native.Mathlib.Omega.{arith}
 use borrow.Author.Needs.{needs}
 use borrow.Author.Tests.{not-true, not-false, lt-ltb, ltb-true}
 use lib.Dec.{ltb}
 use lib.ListN.{length, getD}
 use Rattle.layout.specs.Sizes.{most-states}
-use Rattle.layout.specs.Records.{no-transition, node-of}
+use Rattle.layout.specs.Records.{node-of}
 use Rattle.layout.proofs.Tables.{all-true, all-at}
 use Rattle.layout.proofs.ConverterBytes.{names-of, edges-of}
 use Rattle.layout.proofs.Nodes.{node-fails, node-passes}

@@ -1,7 +1,7 @@
 -- `design_tests::length_right` meets its contract.
 use borrow.Author.Tests.{eq-eqb, ne-eqb}
 use lib.ListN.{length}
-use Rattle.layout.specs.Sizes.{least-sides, side-count}
+use Rattle.layout.specs.Sizes.{least-sides}
 use Rattle.refusals.specs.Refusals.{design-bytes, length-right}
 use borrow.Author.Needs.{needs}
 use Rattle.refusals.proofs.design_tests.length_right.Statement.{statement}

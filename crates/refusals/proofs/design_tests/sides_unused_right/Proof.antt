@@ -1,7 +1,6 @@
 -- `design_tests::sides_unused_right` meets its contract. The invariant: each of the first i blocks passes.
 use mathlib.Core.Path.{_≡_, sym, ap, _∙_}
 use mathlib.Core.Bool.{true}
-use mathlib.Core.List.{List}
 use Prim.Native.Nat.{ℕ, _-_, _≤_, _<_}
 use native.Mathlib.Nat.{not-suc-le-zero}
 use native.Mathlib.Omega.{arith}
@@ -9,7 +8,6 @@ use borrow.Author.Count.{below-more}
 use borrow.Author.Tests.{not-true, not-false}
 use lib.ListN.{length, take}
 use lib.Seq.{length-take-le, getD-take}
-use Rattle.layout.specs.Sizes.{side-count}
 use Rattle.layout.specs.Blocks.{kernel, side-blocks}
 use Rattle.layout.specs.Designs.{held, side-block}
 use Rattle.refusals.specs.Refusals.{unused-right}
