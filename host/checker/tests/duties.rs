@@ -69,6 +69,7 @@ fn every_choice() {
             }
         }
     }
+    assert!(sampled > 0, "some have too many choices to try them all");
     println!("tried {tried}, right {right_ones}, designs with a sample {sampled}");
 }
 
