@@ -1,6 +1,6 @@
 /* Gorzhani: converters between the tables of a kernel, a host and a third side, searched, judged and run. The functions are proved in Rattle for every input.
  *
- * The machine: x86-64 Linux, with the System V C calling convention. The archive needs memcpy and memset, from the C library or of one's own, and nothing
+ * The machine: x86-64 Linux, with the System V C calling convention. The archive needs memset, from the C library or of one's own, and nothing
  * else. It allocates nothing, asks nothing of the system and keeps nothing from call to call: calls on other buffers may run at the same time.
  *
  * What the caller owes, and C cannot state:
@@ -55,8 +55,8 @@ enum {
 };
 
 /* The bytes of stack that a call takes at the most, its return address included, rounded up to whole KiB: the archive's frames add up to no more on any way
- * through it, and host/gorzhani/tests/stack.rs measures calls. Of memcpy and memset only the return address is counted, since the C library's take no more.
- * Where a program finds these two at their first call alone (lazy binding), its loader takes about 3 KiB beside at that call. */
+ * through it, and host/gorzhani/tests/stack.rs measures calls. Of memset only the return address is counted, since the C library's takes no more.
+ * Where a program finds it at its first call alone (lazy binding), its loader takes about 3 KiB beside at that call. */
 enum {
     GORZHANI_POSITIONS_STACK = 1024,
     GORZHANI_SEARCH_STACK = 8192,
