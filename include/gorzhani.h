@@ -1,6 +1,6 @@
-/* Gorzhani: converters between a kernel table and a host table, searched, judged and run. The functions are proved in Rattle for every input.
+/* Gorzhani: converters between the tables of a kernel, a host and a third side, searched, judged and run. The functions are proved in Rattle for every input.
  *
- * The machine: x86-64 Linux, with the System V C calling convention. The archive needs memcpy and memset, from the C library or of one's own, and nothing
+ * The machine: x86-64 Linux, with the System V C calling convention. The archive needs memset, from the C library or of one's own, and nothing
  * else. It allocates nothing, asks nothing of the system and keeps nothing from call to call: calls on other buffers may run at the same time.
  *
  * What the caller owes, and C cannot state:
@@ -28,12 +28,17 @@
 extern "C" {
 #endif
 
-/* Sizes in bytes. */
+/* A design has five blocks, of kinds 1 (the kernel), 2 (the host), 6 (the third side), 3 (formulas) and 4 (rules), or four where the third side has no
+ * block: it is then one ticking state without labels. Formulas name the kernel's labels as 0 to 15, the host's as 16 to 31 and the third side's as 32 to 47,
+ * of which none holds in a design of four blocks. Where a runner or a tick says first, second and third, these are the kernel, the host and the third side. */
+
+/* Sizes in bytes, and the records of a block. */
 enum {
-    GORZHANI_DESIGN_BYTES = 2048,
-    GORZHANI_RECORD_BYTES = 36,
+    GORZHANI_FOUR_BLOCK_DESIGN_BYTES = 2048,
+    GORZHANI_FIVE_BLOCK_DESIGN_BYTES = 2560,
+    GORZHANI_RECORD_BYTES = 52,
     GORZHANI_BLOCK_BYTES = 512,
-    GORZHANI_BLOCK_RECORDS = 14,
+    GORZHANI_BLOCK_RECORDS = 9,
     /* work: so many a position (search) or a record (judge) */
     GORZHANI_CELL_BYTES = 16
 };
@@ -43,18 +48,18 @@ enum {
 enum {
     GORZHANI_MOST_POSITIONS = 65536,
     GORZHANI_MOST_RECORDS = 65536,
-    GORZHANI_MOST_BLOCKS = 4682,
-    GORZHANI_MOST_TABLE_BYTES = 2359296,
+    GORZHANI_MOST_BLOCKS = 7282,
+    GORZHANI_MOST_TABLE_BYTES = 3407872,
     GORZHANI_MOST_WORK_BYTES = 1048576,
-    GORZHANI_MOST_BLOCKS_BYTES = 2397184
+    GORZHANI_MOST_BLOCKS_BYTES = 3728384
 };
 
 /* The bytes of stack that a call takes at the most, its return address included, rounded up to whole KiB: the archive's frames add up to no more on any way
- * through it, and host/gorzhani/tests/stack.rs measures calls. Of memcpy and memset only the return address is counted, since the C library's take no more.
- * Where a program finds these two at their first call alone (lazy binding), its loader takes about 3 KiB beside at that call. */
+ * through it, and host/gorzhani/tests/stack.rs measures calls. Of memset only the return address is counted, since the C library's takes no more.
+ * Where a program finds it at its first call alone (lazy binding), its loader takes about 3 KiB beside at that call. */
 enum {
     GORZHANI_POSITIONS_STACK = 1024,
-    GORZHANI_SEARCH_STACK = 6144,
+    GORZHANI_SEARCH_STACK = 8192,
     GORZHANI_JUDGE_STACK = 1024,
     GORZHANI_WRITE_STACK = 1024,
     GORZHANI_READ_STACK = 1024,
@@ -63,7 +68,7 @@ enum {
 
 /* The numbers of the refusals; an answer is their negation. */
 enum {
-    /* a design isn't 2,048 bytes, or a converter file is empty, no multiple of 512 or over 4,682 blocks */
+    /* a design isn't 2,048 or 2,560 bytes, or a converter file is empty, no multiple of 512 or over 7,282 blocks */
     GORZHANI_REFUSED_LENGTH = 1,
     /* a block's check is wrong */
     GORZHANI_REFUSED_CHECK = 2,
@@ -75,15 +80,15 @@ enum {
     GORZHANI_REFUSED_TRANSITIONS = 5,
     /* a state is neither input, output-only nor delayed */
     GORZHANI_REFUSED_STATE_KIND = 6,
-    /* a formula has an unknown kind, an operand not lower or a proposition over 31, or a rule names no formula */
+    /* a formula has an unknown kind, an operand not lower or a proposition over 47, or a rule names no formula */
     GORZHANI_REFUSED_FORMULA = 7,
     /* an unused byte outside converter records isn't zero */
     GORZHANI_REFUSED_UNUSED_BYTE = 8,
     /* a design has over 65,536 positions */
     GORZHANI_REFUSED_POSITIONS = 9,
-    /* a converter in memory is empty, no multiple of 36 or over 65,536 records */
+    /* a converter in memory is empty, no multiple of 52 or over 65,536 records */
     GORZHANI_REFUSED_CONVERTER_LENGTH = 10,
-    /* a converter record has a side state over 15, a count outside 1 to 8, an event outside -63 to 63, an event pair twice, a next record that isn't there,
+    /* a converter record has a side state over 15, a count outside 1 to 8, an event outside -63 to 63, an event triple twice, a next record that isn't there,
      * or an unused byte that isn't zero */
     GORZHANI_REFUSED_RECORD = 11,
     /* the lent result is too short */
@@ -103,7 +108,7 @@ enum {
 /* Counts the positions of a design, by which its search is lent memory. Answers the count, 1 to 65,536, or refuses with 1 to 9. */
 int32_t gorzhani_positions(const uint8_t *design, size_t design_len);
 
-/* Searches a converter for a design: lend 36 bytes of table and 16 of work for each position. Answers the number of records, 36 bytes each, that stand at
+/* Searches a converter for a design: lend 52 bytes of table and 16 of work for each position. Answers the number of records, 52 bytes each, that stand at
  * the front of the table, or refuses with 1 to 9, 12, 13, or 16 where no converter of any size exists. */
 int32_t gorzhani_search(const uint8_t *design, size_t design_len, uint8_t *table, size_t table_len, uint8_t *work, size_t work_len);
 
@@ -111,21 +116,21 @@ int32_t gorzhani_search(const uint8_t *design, size_t design_len, uint8_t *table
  * or refuses with 1 to 8, 10, 11, 13 to 15. */
 int32_t gorzhani_judge(const uint8_t *design, size_t design_len, const uint8_t *converter, size_t converter_len, uint8_t *work, size_t work_len);
 
-/* Writes a converter as blocks of 14 records: lend 512 bytes for each 14 records or part of them. Answers the number of blocks, or refuses with 10 to 12. */
+/* Writes a converter as blocks of 9 records: lend 512 bytes for each 9 records or part of them. Answers the number of blocks, or refuses with 10 to 12. */
 int32_t gorzhani_write(const uint8_t *converter, size_t converter_len, uint8_t *blocks, size_t blocks_len);
 
-/* Reads a converter from blocks: lend 36 bytes for each record. Answers the number of records, or refuses with 1 to 4, 8, 11, 12. */
+/* Reads a converter from blocks: lend 52 bytes for each record. Answers the number of records, or refuses with 1 to 4, 8, 11, 12. */
 int32_t gorzhani_read(const uint8_t *blocks, size_t blocks_len, uint8_t *converter, size_t converter_len);
 
-/* The record that a runner stands at and the events last delivered; all zero before the first tick. */
+/* The record that a runner stands at and the events last delivered; all zero before the first tick. Of the byte of padding behind them nothing is said. */
 struct gorzhani_runner {
     uint16_t record;
-    int8_t first, second;
+    int8_t first, second, third;
 };
 
 /* One tick: each side shows the event that it sends, or 0. Afterwards the runner holds the next record and the events to deliver. Answers 0, or refuses with
  * 10, 11, 17; the runner is then as it was. Only the record that the runner stands at is tried for 11. */
-int32_t gorzhani_tick(const uint8_t *converter, size_t converter_len, struct gorzhani_runner *runner, int8_t first, int8_t second);
+int32_t gorzhani_tick(const uint8_t *converter, size_t converter_len, struct gorzhani_runner *runner, int8_t first, int8_t second, int8_t third);
 
 #ifdef __cplusplus
 }

@@ -1,14 +1,21 @@
-/* From a design to ticks, over the C header alone: the handshake pair of the README's example with no rules. Then rules over labels, each of which belongs to
- * one side. Prints what each call answered. */
+/* From a design to ticks, over the C header alone: the handshake pair of the README's example with no rules, then three sides of one state each. Then rules
+ * over labels, each of which belongs to one side. Prints what each call answered. */
 #include <stdio.h>
 #include <stdlib.h>
 #include <string.h>
 
 #include "gorzhani.h"
 
-_Static_assert(sizeof(struct gorzhani_runner) == 4 && _Alignof(struct gorzhani_runner) == 2, "a runner has 4 bytes and is aligned to 2");
+_Static_assert(sizeof(struct gorzhani_runner) == 6 && _Alignof(struct gorzhani_runner) == 2, "a runner has 6 bytes and is aligned to 2");
 
-static uint8_t design[GORZHANI_DESIGN_BYTES];
+static uint8_t design[GORZHANI_FIVE_BLOCK_DESIGN_BYTES];
+static size_t design_len;
+
+/* Begins a design with blocks for two sides or for three. */
+static void begin(int sides) {
+    memset(design, 0, sizeof design);
+    design_len = sides == 3 ? GORZHANI_FIVE_BLOCK_DESIGN_BYTES : GORZHANI_FOUR_BLOCK_DESIGN_BYTES;
+}
 
 static void state(int side, int number, int label, int count, const int8_t *places) {
     uint8_t *at = design + 512 * side + 4 + 20 * number;
@@ -18,14 +25,22 @@ static void state(int side, int number, int label, int count, const int8_t *plac
     for (int k = 0; k < 2 * count; k++) at[4 + k] = (uint8_t)places[k];
 }
 
-static void seal(int block, int count) {
-    uint8_t *at = design + 512 * block;
+static void seal(uint8_t *block, int kind, int count) {
     unsigned sum = 0;
-    at[0] = (uint8_t)(block + 1);
-    at[1] = (uint8_t)count;
-    for (int k = 0; k < 510; k++) sum += at[k];
-    at[510] = (uint8_t)(sum & 255);
-    at[511] = (uint8_t)(sum >> 8 & 255);
+    block[0] = (uint8_t)kind;
+    block[1] = (uint8_t)count;
+    for (int k = 0; k < 510; k++) sum += block[k];
+    block[510] = (uint8_t)(sum & 255);
+    block[511] = (uint8_t)(sum >> 8 & 255);
+}
+
+/* Ends a design: so many states on each side, so many formulas, so many rules. */
+static void end(int states, int formulas, int rules) {
+    static const int side_kinds[] = {1, 2, 6};
+    uint8_t *behind = design + design_len - 1024;
+    for (int side = 0; design + 512 * side < behind; side++) seal(design + 512 * side, side_kinds[side], states);
+    seal(behind, 3, formulas);
+    seal(behind + 512, 4, rules);
 }
 
 static uint8_t *lend(size_t size) {
@@ -44,55 +59,74 @@ static const char *found(int32_t records) {
     return records > 0 ? "found" : records == -GORZHANI_REFUSED_NO_CONVERTER ? "found that none exists" : "refused";
 }
 
-/* Two sides that only tick, to and fro. State 0 of the kernel has label 3, and so has state 1 of the host. The one rule is formula 0: a proposition holds. */
-static void ruled_by(int proposition) {
+/* Sides that only tick, to and fro. State 0 of the kernel has label 3, and so have state 1 of the host and state 0 of the third side. The one rule is
+ * formula 0: a proposition holds. */
+static void ruled_by(int sides, int proposition) {
     const int8_t to_0[] = {0, 0}, to_1[] = {0, 1};
-    uint8_t *formula = design + 1024 + 4;
-    memset(design, 0, sizeof design);
-    state(0, 0, 1 << 3, 1, to_1);
-    state(0, 1, 0, 1, to_0);
-    state(1, 0, 0, 1, to_1);
-    state(1, 1, 1 << 3, 1, to_0);
+    begin(sides);
+    for (int side = 0; side < sides; side++) {
+        state(side, 0, side == 1 ? 0 : 1 << 3, 1, to_1);
+        state(side, 1, side == 1 ? 1 << 3 : 0, 1, to_0);
+    }
+    uint8_t *formula = design + design_len - 1024 + 4;
     formula[0] = 3;
     formula[1] = (uint8_t)proposition;
-    seal(0, 2);
-    seal(1, 2);
-    seal(2, 1);
-    seal(3, 1);
+    end(2, 1, 1);
 }
 
-/* Judges a converter of two records, in which both sides tick on, and searches one. There are 8 positions. */
-static void ask(int proposition) {
-    static const uint8_t converter[2 * GORZHANI_RECORD_BYTES] = {0, 0, 1, 0, 0, 0, 1, 0, [GORZHANI_RECORD_BYTES] = 1, 1, 1};
-    static uint8_t table[8 * GORZHANI_RECORD_BYTES], work[8 * GORZHANI_CELL_BYTES];
-    ruled_by(proposition);
-    int32_t judged = gorzhani_judge(design, sizeof design, converter, sizeof converter, work, sizeof work);
-    int32_t records = gorzhani_search(design, sizeof design, table, sizeof table, work, sizeof work);
-    printf("proposition %d: judge %d, search %s\n", proposition, (int)judged, found(records));
+/* Judges a converter of two records, in which all sides tick on, and searches one. There are 8 positions with two sides and 16 with three. */
+static void ask(int sides, int proposition) {
+    static uint8_t table[16 * GORZHANI_RECORD_BYTES], work[16 * GORZHANI_CELL_BYTES];
+    uint8_t converter[2 * GORZHANI_RECORD_BYTES] = {0, 0, 0, 1, 0, 0, 0, 0, 1, 0, [GORZHANI_RECORD_BYTES] = 1, 1, 0, 1};
+    converter[GORZHANI_RECORD_BYTES + 2] = sides == 3;
+    ruled_by(sides, proposition);
+    int32_t judged = gorzhani_judge(design, design_len, converter, sizeof converter, work, sizeof work);
+    int32_t records = gorzhani_search(design, design_len, table, sizeof table, work, sizeof work);
+    printf("proposition %d of %d sides: judge %d, search %s\n", proposition, sides, (int)judged, found(records));
+}
+
+/* A kernel that ticks or sends 1, a host that reads 1 or 2, and a third side that ticks or sends 3: one position, and a transition for each of four choices. */
+static void three_sides(void) {
+    static uint8_t table[GORZHANI_RECORD_BYTES], work[GORZHANI_CELL_BYTES];
+    const int8_t kernel[] = {0, 0, -1, 0}, host[] = {1, 0, 2, 0}, third[] = {0, 0, -3, 0};
+    begin(3);
+    state(0, 0, 0, 2, kernel);
+    state(1, 0, 0, 2, host);
+    state(2, 0, 0, 2, third);
+    end(1, 0, 0);
+    printf("three sides: positions %d\n", (int)gorzhani_positions(design, design_len));
+    int32_t records = gorzhani_search(design, design_len, table, sizeof table, work, sizeof work);
+    printf("three sides: search %s, transitions %d\n", found(records), table[3]);
+    if (records != 1) return;
+    for (int choice = 0; choice < 4; choice++) {
+        struct gorzhani_runner runner = {0, 0, 0, 0};
+        int8_t first = choice & 1 ? -1 : 0, last = choice & 2 ? -3 : 0;
+        int32_t answer = gorzhani_tick(table, sizeof table, &runner, first, 0, last);
+        printf("tick %d with %d and %d shown: delivered %d and %d, the host reads %s\n", (int)answer, first, last, runner.first, runner.third,
+               runner.second > 0 ? "something" : "nothing");
+    }
 }
 
 int main(void) {
     const int8_t s0[] = {0, 0, -1, 1}, s1[] = {0, 1, -2, 0}, t0[] = {0, 0, 1, 1}, t1[] = {2, 0};
+    begin(2);
     state(0, 0, 1 << 0, 2, s0);
     state(0, 1, 1 << 1, 2, s1);
     state(1, 0, 1 << 2, 2, t0);
     state(1, 1, 1 << 3, 1, t1);
-    seal(0, 2);
-    seal(1, 2);
-    seal(2, 0);
-    seal(3, 0);
+    end(2, 0, 0);
 
-    int32_t positions = gorzhani_positions(design, sizeof design);
+    int32_t positions = gorzhani_positions(design, design_len);
     printf("positions %d\n", (int)positions);
     if (positions <= 0) return 1;
     size_t table_len = GORZHANI_RECORD_BYTES * (size_t)positions, work_len = GORZHANI_CELL_BYTES * (size_t)positions;
     uint8_t *table = lend(table_len), *work = lend(work_len);
 
-    int32_t records = gorzhani_search(design, sizeof design, table, table_len, work, work_len);
+    int32_t records = gorzhani_search(design, design_len, table, table_len, work, work_len);
     printf("search %s\n", found(records));
     if (records <= 0) return 1;
     size_t size = GORZHANI_RECORD_BYTES * (size_t)records;
-    printf("judge %d\n", (int)gorzhani_judge(design, sizeof design, table, size, work, work_len));
+    printf("judge %d\n", (int)gorzhani_judge(design, design_len, table, size, work, work_len));
 
     size_t blocks_len = GORZHANI_BLOCK_BYTES * (((size_t)records + GORZHANI_BLOCK_RECORDS - 1) / GORZHANI_BLOCK_RECORDS);
     uint8_t *blocks = lend(blocks_len), *again = lend(size);
@@ -101,21 +135,26 @@ int main(void) {
     printf("read %s\n", back == records && memcmp(table, again, size) == 0 ? "the same" : "another");
 
     /* The kernel waits, sends 1, waits, sends 2; the host only reads. */
-    struct gorzhani_runner runner = {0, 0, 0};
+    struct gorzhani_runner runner = {0, 0, 0, 0};
     const int8_t shown[] = {0, -1, 0, -2};
-    for (size_t k = 0; k < sizeof shown; k++) printf("tick %d\n", (int)gorzhani_tick(table, size, &runner, shown[k], 0));
+    for (size_t k = 0; k < sizeof shown; k++) printf("tick %d\n", (int)gorzhani_tick(table, size, &runner, shown[k], 0, 0));
 
-    printf("tick out of turn: %s\n", declined(gorzhani_tick(table, size, &runner, -9, 0), GORZHANI_REFUSED_TICK));
-    printf("short design: %s\n", declined(gorzhani_positions(design, sizeof design - 1), GORZHANI_REFUSED_LENGTH));
-    printf("short table: %s\n", declined(gorzhani_search(design, sizeof design, table, table_len - 1, work, work_len), GORZHANI_REFUSED_SHORT_RESULT));
+    printf("tick out of turn: %s\n", declined(gorzhani_tick(table, size, &runner, -9, 0, 0), GORZHANI_REFUSED_TICK));
+    printf("third side out of turn: %s\n", declined(gorzhani_tick(table, size, &runner, 0, 0, -9), GORZHANI_REFUSED_TICK));
+    printf("short design: %s\n", declined(gorzhani_positions(design, design_len - 1), GORZHANI_REFUSED_LENGTH));
+    printf("short table: %s\n", declined(gorzhani_search(design, design_len, table, table_len - 1, work, work_len), GORZHANI_REFUSED_SHORT_RESULT));
     free(again);
     free(blocks);
     free(work);
     free(table);
 
-    /* The kernel's label 3, the host's, and one that no side has. */
-    ask(3);
-    ask(16 + 3);
-    ask(2 * 16);
+    three_sides();
+
+    /* The kernel's label 3, the host's and the third side's, and one that no side has. A third side without a block has no labels. */
+    ask(2, 3);
+    ask(2, 16 + 3);
+    ask(2, 2 * 16 + 3);
+    ask(3, 2 * 16 + 3);
+    ask(3, 3 * 16);
     return 0;
 }

@@ -32,10 +32,10 @@ fn print_refusal(k: u8) {
     io::write_all(1, b"\n");
 }
 
-// What there is to say of a design: 1,792 records of table, 28,672 bytes of work, and 128 blocks, which hold that many records.
+// What there is to say of a design: 1,152 records of table, 18,432 bytes of work, and 128 blocks, which hold that many records.
 fn answer(design: &[u8]) {
-    let mut table = [0u8; 64512];
-    let mut work = [0u8; 28672];
+    let mut table = [0u8; 59904];
+    let mut work = [0u8; 18432];
     let mut blocks = [0u8; 65536];
     let written = convert(design, &mut table, &mut work, &mut blocks);
     match written {
@@ -47,9 +47,9 @@ fn answer(design: &[u8]) {
     }
 }
 
-// A byte more than a design has is asked for, so that a longer input is seen to be one.
+// A byte more than the longest design has is asked for, so that a longer input is seen to be one.
 fn main() {
-    let mut design = [0u8; 2049];
+    let mut design = [0u8; 2561];
     let n = io::read_full(0, &mut design);
     answer(&design[..n]);
 }

@@ -27,9 +27,9 @@ fn read(words: &[u8], d: &[u8], n: usize)
 
 // So many zeros.
 fn zeros(words: &[u8], n: usize)
-    requires { ⌜ n ≤ 2049 ⌝ }
+    requires { ⌜ n ≤ 2561 ⌝ }
 {
-    let d = [0u8; 2049];
+    let d = [0u8; 2561];
     read(words, &d, n);
 }
 
@@ -82,6 +82,49 @@ fn one_byte(words: &[u8], at: usize, v: u8)
     whole(words, &d);
 }
 
+// The same of a design of five blocks.
+fn change_of_five(d: &mut [u8; 2560], at: usize, v: u8)
+    requires { ⌜ at < 2560 ⌝ }
+{
+    d[at] = v;
+    blocks::seal(d, 512 * (at / 512));
+}
+
+fn whole_of_five(words: &[u8], d: &[u8; 2560]) {
+    read(words, d, 2560);
+}
+
+// H and a third side of one state, whose transition has this event, with a byte changed.
+fn third_side(words: &[u8], event: i8, at: usize, v: u8)
+    requires { ⌜ at < 2560 ⌝ }
+{
+    let mut service = tables::TICKING;
+    service[4] = layout::events::to_byte(event);
+    let none = [0u8; 0];
+    let mut d = [0u8; 2560];
+    designs::design_of_three(
+        &mut d,
+        &tables::H_KERNEL,
+        &tables::H_HOST,
+        &service,
+        &none,
+        &none,
+    );
+    change_of_five(&mut d, at, v);
+    whole_of_five(words, &d);
+}
+
+fn third_sides() {
+    third_side(b"H and a third side", 0, 1024, 6);
+    third_side(b"a third side of kind 5", 0, 1024, 5);
+    third_side(b"a third side of 0 states", 0, 1025, 0);
+    third_side(b"a third side of 17 states", 0, 1025, 17);
+    third_side(b"a third side that sends -63", -63, 1024, 6);
+    third_side(b"a third side that sends -64", -64, 1024, 6);
+    third_side(b"byte 3 of its state", 0, 1031, 1);
+    third_side(b"formulas of kind 6", 0, 1536, 6);
+}
+
 // Of a design with a wrong check and a wrong kind the check wins.
 fn two_faults() {
     let mut d = [0u8; 2048];
@@ -97,6 +140,9 @@ fn lengths() {
     zeros(b"a design of 511 bytes", 511);
     zeros(b"a design of 2047 bytes", 2047);
     zeros(b"a design of 2049 bytes", 2049);
+    zeros(b"a design of 2559 bytes", 2559);
+    zeros(b"2560 zeros", 2560);
+    zeros(b"a design of 2561 bytes", 2561);
 }
 
 fn states() {
@@ -130,8 +176,10 @@ fn formulas() {
     second_formula(b"proposition 16", 3, 16, 0);
     second_formula(b"proposition 31", 3, 31, 0);
     second_formula(b"proposition 32", 3, 32, 0);
-    second_formula(b"not proposition 31", 4, 31, 0);
-    second_formula(b"not proposition 32", 4, 32, 0);
+    second_formula(b"proposition 47", 3, 47, 0);
+    second_formula(b"proposition 48", 3, 48, 0);
+    second_formula(b"not proposition 47", 4, 47, 0);
+    second_formula(b"not proposition 48", 4, 48, 0);
     second_formula(b"kind 0", 0, 0, 0);
     second_formula(b"kind 10", 10, 0, 0);
 }
@@ -142,5 +190,6 @@ fn main() {
     states();
     two_faults();
     changed();
+    third_sides();
     formulas();
 }

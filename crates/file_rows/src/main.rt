@@ -59,7 +59,7 @@ fn read(words: &[u8], file: &[u8], room: usize)
 
 // F with a byte changed.
 fn changed_record(words: &[u8], at: usize, v: u8)
-    requires { ⌜ at < 108 ⌝ }
+    requires { ⌜ at < 156 ⌝ }
 {
     let mut c = tables::F;
     c[at] = v;
@@ -69,19 +69,19 @@ fn changed_record(words: &[u8], at: usize, v: u8)
 fn writer() {
     let none = [0u8; 0];
     write(b"a converter of 0 bytes", &none, 512);
-    let short = [0u8; 35];
-    write(b"a converter of 35 bytes", &short, 512);
-    let long = [0u8; 37];
-    write(b"a converter of 37 bytes", &long, 512);
+    let short = [0u8; 51];
+    write(b"a converter of 51 bytes", &short, 512);
+    let long = [0u8; 53];
+    write(b"a converter of 53 bytes", &long, 512);
     changed_record(b"a record of state 16", 0, 16);
-    changed_record(b"a record with 0 transitions", 2, 0);
-    changed_record(b"a record with 9 transitions", 2, 9);
-    changed_record(b"a record with 255 transitions", 2, 255);
-    changed_record(b"byte 3 of a record", 3, 1);
+    changed_record(b"a record with 0 transitions", 3, 0);
+    changed_record(b"a record with 9 transitions", 3, 9);
+    changed_record(b"a record with 255 transitions", 3, 255);
+    changed_record(b"the zero inside a place of a record", 7, 1);
     changed_record(b"event -64 in a record", 4, 192);
-    changed_record(b"an event pair twice", 8, 1);
-    changed_record(b"a next record that isn't there", 6, 3);
-    changed_record(b"an unused place of a record", 35, 1);
+    changed_record(b"the events of the sides twice", 10, 1);
+    changed_record(b"a next record that isn't there", 8, 3);
+    changed_record(b"an unused place of a record", 51, 1);
     write(b"F, 511 bytes lent", &tables::F, 511);
     write(b"F, 512 bytes lent, blocks", &tables::F, 512);
 }
@@ -89,16 +89,16 @@ fn writer() {
 // ---- the block reader
 
 // F five times over: fifteen records.
-fn fifteen(c: &mut [u8; 540]) {
-    layout::ranges::copy(&tables::F, 0, c, 0, 108);
-    layout::ranges::copy(&tables::F, 0, c, 108, 108);
-    layout::ranges::copy(&tables::F, 0, c, 216, 108);
-    layout::ranges::copy(&tables::F, 0, c, 324, 108);
-    layout::ranges::copy(&tables::F, 0, c, 432, 108);
+fn fifteen(c: &mut [u8; 780]) {
+    layout::ranges::copy(&tables::F, 0, c, 0, 156);
+    layout::ranges::copy(&tables::F, 0, c, 156, 156);
+    layout::ranges::copy(&tables::F, 0, c, 312, 156);
+    layout::ranges::copy(&tables::F, 0, c, 468, 156);
+    layout::ranges::copy(&tables::F, 0, c, 624, 156);
 }
 
-// Their file: a block of fourteen records, and one of one.
-fn two_blocks(c: &[u8; 540], file: &mut [u8; 1024]) {
+// Their file: a block of nine records, and one of six.
+fn two_blocks(c: &[u8; 780], file: &mut [u8; 1024]) {
     let _blocks = files::writer::write(c, file);
 }
 
@@ -122,19 +122,19 @@ fn change(file: &mut [u8; 1024], at: usize, v: u8, sealed: bool)
 fn changed_file(words: &[u8], at: usize, v: u8, sealed: bool)
     requires { ⌜ at < 1024 ⌝ }
 {
-    let mut c = [0u8; 540];
+    let mut c = [0u8; 780];
     let mut file = [0u8; 1024];
     fifteen(&mut c);
     two_blocks(&c, &mut file);
     change(&mut file, at, v, sealed);
-    read_two(words, &file, 540);
+    read_two(words, &file, 780);
 }
 
 // The file as it is.
 fn whole_file(words: &[u8], room: usize)
     requires { ⌜ room ≤ 1024 ⌝ }
 {
-    let mut c = [0u8; 540];
+    let mut c = [0u8; 780];
     let mut file = [0u8; 1024];
     fifteen(&mut c);
     two_blocks(&c, &mut file);
@@ -143,28 +143,28 @@ fn whole_file(words: &[u8], room: usize)
 
 fn reader() {
     let none = [0u8; 0];
-    read(b"a file of 0 bytes", &none, 540);
+    read(b"a file of 0 bytes", &none, 780);
     let one = [0u8; 1];
-    read(b"a file of 1 byte", &one, 540);
+    read(b"a file of 1 byte", &one, 780);
     let short = [0u8; 511];
-    read(b"a file of 511 bytes", &short, 540);
+    read(b"a file of 511 bytes", &short, 780);
     let long = [0u8; 513];
-    read(b"a file of 513 bytes", &long, 540);
+    read(b"a file of 513 bytes", &long, 780);
     changed_file(b"a wrong check", 510, 1, false);
     changed_file(b"a wrong kind and a wrong check", 512, 9, false);
     changed_file(b"a wrong kind", 512, 9, true);
-    changed_file(b"a wrong first record", 514, 15, true);
+    changed_file(b"a wrong first record", 514, 10, true);
     changed_file(b"a last block with 0 records", 513, 0, true);
-    changed_file(b"a last block with 15 records", 513, 15, true);
+    changed_file(b"a last block with 10 records", 513, 10, true);
     changed_file(b"a last block with 255 records", 513, 255, true);
-    changed_file(b"an earlier block with 13 records", 1, 13, true);
+    changed_file(b"an earlier block with 8 records", 1, 8, true);
     changed_file(b"an earlier block with 255 records", 1, 255, true);
-    changed_file(b"a byte behind the last record", 552, 1, true);
+    changed_file(b"a byte behind the last record", 828, 1, true);
     changed_file(b"a record of state 16 in a file", 4, 16, true);
-    changed_file(b"a next record past the file", 10, 15, true);
-    changed_file(b"byte 3 of a record in a file", 7, 1, true);
-    whole_file(b"15 records, 539 bytes lent", 539);
-    whole_file(b"15 records, 540 bytes lent, records", 540);
+    changed_file(b"a next record past the file", 12, 15, true);
+    changed_file(b"the zero inside a place in a file", 11, 1, true);
+    whole_file(b"15 records, 779 bytes lent", 779);
+    whole_file(b"15 records, 780 bytes lent, records", 780);
 }
 
 // ---- what is written is read back the same, and no byte behind it is changed
@@ -182,7 +182,7 @@ fn back(words: &[u8], converter: &[u8], file: &mut [u8])
     lines::yes_or_no(words, same(&expected, &lent));
 }
 
-fn fifteen_back(c: &[u8; 540]) {
+fn fifteen_back(c: &[u8; 780]) {
     let mut file = [0u8; 1024];
     back(b"15 records written and read back", c, &mut file);
 }
@@ -190,7 +190,7 @@ fn fifteen_back(c: &[u8; 540]) {
 fn round_trips() {
     let mut file = [0u8; 512];
     back(b"F written and read back", &tables::F, &mut file);
-    let mut c = [0u8; 540];
+    let mut c = [0u8; 780];
     fifteen(&mut c);
     fifteen_back(&c);
 }

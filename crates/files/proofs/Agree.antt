@@ -1,20 +1,22 @@
 -- Bytes that agree: a part, a converter record and its test (11) depend on their own bytes alone.
 use mathlib.Core.Path.{_≡_, refl, sym, ap, ap₂, _∙_}
-use mathlib.Core.Bool.{_&&_}
-use mathlib.Core.List.{List, _∷_}
+use mathlib.Core.Bool.{Bool, true, false, _&&_}
+use mathlib.Core.List.{List, _∷_, _++_}
 use Prim.Native.Nat.{ℕ, zero, suc, _+_, _-_, _*_, _≤_, _<_}
-use native.Mathlib.Decide.{decLt}
 use native.Mathlib.Omega.{arith}
 use lib.ListN.{length}
 use lib.Seq.{ext-getD}
-use Rattle.layout.specs.Sizes.{side-count, place-count, record-bytes}
+use Rattle.layout.specs.Sizes.{side-count, place-count, record-bytes, edge-count-at, places-at, transition-bytes, next-at}
 use Rattle.layout.specs.Tables.{table, table-from}
 use Rattle.layout.specs.Bytes.{byte, event-of, part, all-zero}
 use Rattle.layout.specs.Records.{transition-at, record-at, node-of}
-use Rattle.layout.specs.Unused.{converter-record, unused}
+use Rattle.layout.specs.Unused.{converter-record, place-gaps, places-behind, unused}
 use Rattle.layout.specs.Tests.{node-right}
 use Rattle.refusals.specs.Refusals.{record-right}
 use Rattle.layout.proofs.Parts.{length-part, byte-part}
+use Rattle.layout.proofs.Tables.{and-false}
+use Rattle.layout.proofs.ConverterBytes.{edges-of}
+use Rattle.layout.proofs.Nodes.{well-formed}
 
 -- tables of the same entries
 from-same : {A : Type 0} (f g : ℕ → A) (i n : ℕ) → ((k : ℕ) → k < n → f (i + k) ≡ g (i + k)) → table-from f i n ≡ table-from g i n
@@ -42,40 +44,54 @@ module _ (xs ys : List ℕ) (a b : ℕ) (agree : (i : ℕ) → i < record-bytes 
   at-offset : (m x y : ℕ) → x ≡ a + m → y ≡ b + m → m < record-bytes → byte xs x ≡ byte ys y
   at-offset m x y p q h = ap (byte xs) p ∙ agree m h ∙ sym (ap (byte ys) q)
 
+  -- byte j of place k
+  in-place : (k j : ℕ) → k < place-count → j < transition-bytes → byte xs (a + places-at + transition-bytes * k + j) ≡ byte ys (b + places-at + transition-bytes * k + j)
+  in-place k j h l = at-offset (places-at + transition-bytes * k + j) _ _ (omega arith) (omega arith) (omega arith)
+
   transition-agrees : (k : ℕ) → k < place-count → transition-at xs a k ≡ transition-at ys b k
   unfolding transition-at
   transition-agrees k h =
+      let high = at-offset (places-at + transition-bytes * k + next-at + 1) (a + places-at + transition-bytes * k + next-at + 1) (b + places-at + transition-bytes * k + next-at + 1) (omega arith) (omega arith) (omega arith) in
       ap₂ (λ es w. record { events = es; next = w })
-      (table-same (λ i. event-of (byte xs (a + 4 + 4 * k + i))) (λ i. event-of (byte ys (b + 4 + 4 * k + i))) side-count (λ i l.
-      ap event-of (at-offset (4 + 4 * k + i) (a + 4 + 4 * k + i) (b + 4 + 4 * k + i) (omega arith) (omega arith) (omega arith))))
-      (ap₂ (λ x y. x + 256 * y)
-      (at-offset (4 + 4 * k + 2) (a + 4 + 4 * k + 2) (b + 4 + 4 * k + 2) (omega arith) (omega arith) (omega arith))
-      (at-offset (4 + 4 * k + 3) (a + 4 + 4 * k + 2 + 1) (b + 4 + 4 * k + 2 + 1) (omega arith) (omega arith) (omega arith)))
+      (table-same (λ i. event-of (byte xs (a + places-at + transition-bytes * k + i))) (λ i. event-of (byte ys (b + places-at + transition-bytes * k + i))) side-count
+      (λ i l. ap event-of (in-place k i h (omega arith))))
+      (ap₂ (λ x y. x + 256 * y) (in-place k next-at h (omega arith)) high)
+
+  count-agrees : byte xs (a + edge-count-at) ≡ byte ys (b + edge-count-at)
+  count-agrees = agree edge-count-at (omega arith)
 
   pub record-agrees : record-at xs a ≡ record-at ys b
   unfolding record-at
   record-agrees =
       let names = table-same (λ i. byte xs (a + i)) (λ i. byte ys (b + i)) side-count (λ i l. agree i (omega arith)) in
       let places = table-same (transition-at xs a) (transition-at ys b) place-count transition-agrees in
-      let count = agree 2 (omega arith) in
+      let count = count-agrees in
       cc
 
-  -- the places behind the count
-  unused-agrees : a + record-bytes ≤ length xs → b + record-bytes ≤ length ys → unused converter-record xs a ≡ unused converter-record ys b
+  -- where the count is of places that there are: the byte inside each that is used, and the places behind
+  unused-agrees : byte ys (b + edge-count-at) ≤ place-count → a + record-bytes ≤ length xs → b + record-bytes ≤ length ys → unused converter-record xs a ≡ unused converter-record ys b
   unfolding unused
-  unused-agrees h l = ap₂ _∷_ (agree 3 (omega arith)) (ap (λ c. part xs (a + 4 + 4 * c) (4 * (8 - c))) count ∙ by (decLt 8 (byte ys (b + 2))))
-    where
-      count : byte xs (a + 2) ≡ byte ys (b + 2)
-      count = agree 2 (omega arith)
+  unused-agrees few h l =
+      let n = byte ys (b + edge-count-at) in
+      ap (λ c. place-gaps c xs a ++ places-behind c transition-bytes xs a) count-agrees
+      ∙ ap₂ _++_ (table-same _ _ n (λ k u. in-place k side-count (omega arith) (omega arith)))
+      (part-same xs ys (a + places-at + transition-bytes * n) (b + places-at + transition-bytes * n) (transition-bytes * (place-count - n)) (omega arith) (omega arith)
+      (λ i v. at-offset (places-at + transition-bytes * n + i) _ _ (omega arith) (omega arith) (omega arith)))
 
-      c : ℕ
-      c = byte ys (b + 2)
-
-      by : Dec (8 < c) → part xs (a + 4 + 4 * c) (4 * (8 - c)) ≡ part ys (b + 4 + 4 * c) (4 * (8 - c))
-      by (yes u) = let z : 4 * (8 - c) ≡ 0 = omega arith in ap (part xs (a + 4 + 4 * c)) z ∙ sym (ap (part ys (b + 4 + 4 * c)) z)
-      by (no u) = part-same xs ys (a + 4 + 4 * c) (b + 4 + 4 * c) (4 * (8 - c)) (omega arith) (omega arith) (λ i v.
-          at-offset (4 + 4 * c + i) (a + 4 + 4 * c + i) (b + 4 + 4 * c + i) (omega arith) (omega arith) (omega arith))
-
+  -- a count that is over 8 is refused by itself
   pub right-agrees : (n : ℕ) → a + record-bytes ≤ length xs → b + record-bytes ≤ length ys → record-right xs n a ≡ record-right ys n b
-  unfolding record-right
-  right-agrees n h l = ap₂ _&&_ (ap (λ r. node-right n (node-of r)) record-agrees) (ap all-zero (unused-agrees h l))
+  unfolding record-at record-right
+  right-agrees n h l = by (right ys b) refl
+    where
+      right : List ℕ → ℕ → Bool
+      right zs at = node-right n (node-of (record-at zs at))
+
+      same : right xs a ≡ right ys b
+      same = ap (λ r. node-right n (node-of r)) record-agrees
+
+      few : right ys b ≡ true → byte ys (b + edge-count-at) ≤ place-count
+      few e = omega (arith, edges-of (record-at ys b), well-formed n (node-of (record-at ys b)) e .at-most-eight)
+
+      by : (r : Bool) → right ys b ≡ r → record-right xs n a ≡ record-right ys n b
+      by true e = ap₂ _&&_ same (ap all-zero (unused-agrees (few e) h l))
+      by false e = and-false (right xs a) _ (same ∙ e) ∙ sym (and-false (right ys b) _ e)

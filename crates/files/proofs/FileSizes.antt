@@ -1,4 +1,4 @@
--- Refusal 1 of a converter file: whole blocks, 1 to 4,682.
+-- Refusal 1 of a converter file: whole blocks, 1 to 7,282.
 use mathlib.Core.Path.{_≡_}
 use mathlib.Core.Bool.{true, _&&_}
 use mathlib.Core.List.{List}

@@ -128,7 +128,7 @@ module _ (bs : List ℕ) where
         of-each (unused-right bs) (b .unused-bytes),
       )
 
-  -- the last block holds at most fourteen records, so that all are in blocks that are there
+  -- the last block holds at most nine records, so that all are in blocks that are there
   pub count-fits : Sized bs → BlocksPass bs → file-count bs ≤ block-records * blocks bs
   unfolding file-count
   count-fits s b =

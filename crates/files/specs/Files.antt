@@ -1,4 +1,4 @@
--- Specification, "Bytes": a converter file is blocks of kind 5, 14 records each, the last 1 to 14, first records 0, 14, 28 and so on. From the file to its
+-- Specification, "Bytes": a converter file is blocks of kind 5, 9 records each, the last 1 to 9, first records 0, 9, 18 and so on. From the file to its
 -- records, and from records to the file.
 use mathlib.Core.Bool.{cond}
 use mathlib.Core.List.{List, flatten}
@@ -39,7 +39,7 @@ file-blocks bs = table (blocks bs) (file-block (blocks bs))
 unfoldable pub file-count : List ℕ → ℕ
 file-count bs = block-records * (blocks bs - 1) + record-count bs (file-block (blocks bs) (blocks bs - 1))
 
--- where byte i of the records stands: 504 of them to a block, from its byte 4 on
+-- where byte i of the records stands: 468 of them to a block, from its byte 4 on
 abbrev pub file-place : ℕ → ℕ
 file-place i = block-bytes * (i / block-record-bytes) + records-in-block + i % block-record-bytes
 

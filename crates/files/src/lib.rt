@@ -1,4 +1,4 @@
-// Converter files: blocks of kind 5, 14 records each, the last 1 to 14.
+// Converter files: blocks of kind 5, 9 records each, the last 1 to 9.
 pub mod answers;
 pub mod reader;
 pub mod writer;

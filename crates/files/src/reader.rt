@@ -24,7 +24,7 @@ pub fn block_count(s: &[u8]) -> usize
     s.len() / sizes::BLOCK_BYTES
 }
 
-// Whether there are 1 to 4,682 whole blocks (1).
+// Whether there are 1 to 7,282 whole blocks (1).
 fn file_size_right(s: &[u8]) -> bool
     ensures { λ r. ⌜ r ≡ file-size-right (now (s .entry)) ⌝ }
 {

@@ -1,4 +1,4 @@
-// The writer: a converter to blocks of kind 5, 14 records each, the last 1 to 14.
+// The writer: a converter to blocks of kind 5, 9 records each, the last 1 to 9.
 ghost use mathlib.Core.Path.{_≡_};
 ghost use mathlib.Core.List.{_∷_};
 ghost use Prim.Native.Nat.{_+_, _-_, _*_, _<_, _≤_, min};

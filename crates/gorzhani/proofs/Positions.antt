@@ -13,7 +13,7 @@ use Rattle.layout.specs.Sizes.{most-positions}
 use Rattle.layout.specs.Designs.{design}
 use Rattle.refusals.specs.Refusals.{first-failing, design-tests, design-refusal, positions-test}
 use Rattle.refusals.proofs.Passing.{passed, refused-first, refused-later, none-first}
-use Rattle.refusals.proofs.CountedBytes.{accepted-counts}
+use Rattle.refusals.proofs.WellFormed.{accepted-counts}
 use Rattle.positions.proofs.PositionCount.{some-joint}
 use Rattle.refusals.specs.Counted.{Accepted}
 use Rattle.gorzhani.specs.Codes.{refusal-code}
@@ -38,8 +38,9 @@ module _ (ds : List ℕ) where
   pub some-position : design-refusal ds ≡ 0 → 1 ≤ positions (design ds)
   unfolding positions
   some-position e =
-      let owed : 1 * 1 ≤ joint-count (design ds .sides) * 2 ^ kept-count (design ds) = mul-le-mul (some-joint ds (accepted-counts ds e)) (pow-pos (kept-count (design ds))) in
-      mul-le-mul owed (le-max-left 1 (until-count (design ds .forms)))
+      let D = design ds in
+      let owed : 1 * 1 ≤ joint-count (D .sides) * 2 ^ kept-count D = mul-le-mul (some-joint ds (accepted-counts ds e)) (pow-pos (kept-count D)) in
+      mul-le-mul owed (le-max-left 1 (until-count (D .forms)))
 
   pub number-taken : positions-refusal ds ≡ 0 → positions-number ds ≡ pos (positions (design ds))
   number-taken = where-none (positions-refusal ds) (pos (positions (design ds))) (refusal-code (positions-refusal ds))

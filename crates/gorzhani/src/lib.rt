@@ -120,8 +120,14 @@ fn tick_code(answer: Answer) -> i32
 
 // One tick: 0 where it is done.
 #[no_mangle]
-pub extern "C" fn gorzhani_tick(converter: &[u8], runner: &mut Runner, first: i8, second: i8) -> i32
-    ensures { λ r. ⌜ TickCall (now (converter .entry)) (now (runner .entry)) (first ∷ second ∷ []) r (now (runner .exit)) ⌝ }
+pub extern "C" fn gorzhani_tick(
+    converter: &[u8],
+    runner: &mut Runner,
+    first: i8,
+    second: i8,
+    third: i8,
+) -> i32
+    ensures { λ r. ⌜ TickCall (now (converter .entry)) (now (runner .entry)) (first ∷ second ∷ third ∷ []) r (now (runner .exit)) ⌝ }
 {
-    tick_code(runner::tick(converter, runner, first, second))
+    tick_code(runner::tick(converter, runner, first, second, third))
 }

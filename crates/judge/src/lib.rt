@@ -1,4 +1,4 @@
-// The judge: whether a converter is matched to the two tables of a design and keeps every rule, over lent work of 16 bytes a record.
+// The judge: whether a converter is matched to the sides of a design and keeps every rule, over lent work of 16 bytes a record.
 ghost use mathlib.Core.Path.{_≡_};
 ghost use Rattle.judge.specs.Judge.{judge-refusal, Judges};
 

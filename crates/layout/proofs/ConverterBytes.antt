@@ -6,7 +6,7 @@ use native.Mathlib.Omega.{arith}
 use lib.ListN.{length, getD}
 use Rattle.model.specs.Converters.{no-node, no-edge, node, edge}
 use Rattle.layout.specs.declared.records.Record.{Record}
-use Rattle.layout.specs.Sizes.{side-count, place-count, record-bytes, count-at}
+use Rattle.layout.specs.Sizes.{side-count, place-count, record-bytes, edge-count-at}
 use Rattle.layout.specs.Tables.{table}
 use Rattle.layout.specs.Bytes.{byte}
 use Rattle.layout.specs.Records.{no-transition, transition-at, record-at, edge-of, node-of}
@@ -42,7 +42,7 @@ module _ (cs : List ℕ) (c : ℕ) (there : c < records cs) where
   unfolding record-at
   names-at = sym (names-of (record-at cs (record-bytes * c))) ∙ ap (λ d. d .names) node-at
 
-  pub edges-at : byte cs (record-bytes * c + count-at) ≡ length (node (converter cs) c .edges)
+  pub edges-at : byte cs (record-bytes * c + edge-count-at) ≡ length (node (converter cs) c .edges)
   unfolding record-at
   edges-at = sym (edges-of (record-at cs (record-bytes * c))) ∙ ap (λ d. length (d .edges)) node-at
 

@@ -2,7 +2,7 @@
 -- check.
 use mathlib.Core.List.{List, [], _∷_, _++_}
 use Prim.Native.Nat.{ℕ, _+_, _-_, _*_}
-use lib.ListN.{length, replicate}
+use lib.ListN.{length, take, replicate}
 use Rattle.layout.specs.Sizes.{most-states, most-formulas, most-rules, count-in-block, records-in-block, check-in-block, block-bytes}
 use Rattle.layout.specs.Bytes.{byte, part, check, word-bytes}
 use Rattle.layout.specs.Unused.{Layout, state-record, formula-record, rule-record, size}
@@ -16,24 +16,29 @@ pub record Block : Type 0 where
   pub least : ℕ
   pub most : ℕ
 
--- ---- the four blocks of a design
+-- ---- the blocks of a design: those of two sides or of three, and behind them the formulas and the rules
 abbrev pub kernel : Block
 kernel = record { at = 0; kind = 1; first = 0; holds = state-record; least = 1; most = most-states }
 
 abbrev pub host : Block
 host = record { at = block-bytes; kind = 2; first = 0; holds = state-record; least = 1; most = most-states }
 
-abbrev pub formulas : Block
-formulas = record { at = 2 * block-bytes; kind = 3; first = 0; holds = formula-record; least = 0; most = most-formulas }
-
-abbrev pub rules : Block
-rules = record { at = 3 * block-bytes; kind = 4; first = 0; holds = rule-record; least = 0; most = most-rules }
+abbrev pub service : Block
+service = record { at = 2 * block-bytes; kind = 6; first = 0; holds = state-record; least = 1; most = most-states }
 
 abbrev pub side-blocks : List Block
-side-blocks = kernel ∷ host ∷ []
+side-blocks = kernel ∷ host ∷ service ∷ []
 
-abbrev pub design-blocks : List Block
-design-blocks = kernel ∷ host ∷ formulas ∷ rules ∷ []
+-- behind the blocks of n sides
+abbrev pub formulas : ℕ → Block
+formulas n = record { at = block-bytes * n; kind = 3; first = 0; holds = formula-record; least = 0; most = most-formulas }
+
+abbrev pub rules : ℕ → Block
+rules n = record { at = block-bytes * (n + 1); kind = 4; first = 0; holds = rule-record; least = 0; most = most-rules }
+
+-- the blocks of a design in which n sides have one
+abbrev pub design-blocks : ℕ → List Block
+design-blocks n = take n side-blocks ++ (formulas n ∷ rules n ∷ [])
 
 -- ---- in a block
 abbrev pub record-count : List ℕ → Block → ℕ

@@ -1,4 +1,4 @@
--- Specification, "Bytes": a converter in memory is its records, 36 bytes each; from these bytes to the model's `Converter`.
+-- Specification, "Bytes": a converter in memory is its records, 52 bytes each; from these bytes to the model's `Converter`.
 use mathlib.Core.List.{List}
 use Prim.Native.Nat.{ℕ, _*_, _/_}
 use lib.ListN.{length}

@@ -1,4 +1,4 @@
--- Specification, "Bytes": a converter record, 36 bytes: state of side 1, state of side 2, count, 0, then eight times (event for side 1, event for side 2, next
+-- Specification, "Bytes": a converter record, 52 bytes: a state of each of the three sides, count, then eight times (an event for each of the three sides, 0, next
 -- record as 16 bits). And what it is to add a transition to a record.
 use mathlib.Core.Bool.{Bool, not, cond}
 use mathlib.Core.List.{List, [], _∷_, _++_, flatten}
@@ -12,7 +12,7 @@ use Rattle.layout.specs.declared.records.Transition.{Transition}
 use Rattle.layout.specs.declared.records.Record.{Record}
 use Rattle.layout.specs.declared.records.Outcome.the-variants.{Added, Present, Full}
 use Rattle.layout.specs.declared.records.Addition.{Addition}
-use Rattle.layout.specs.Sizes.{side-count, place-count, count-at, places-at, transition-bytes, next-at}
+use Rattle.layout.specs.Sizes.{side-count, place-count, edge-count-at, places-at, transition-bytes, next-at}
 use Rattle.layout.specs.Tables.{table, every}
 use Rattle.layout.specs.Bytes.{byte, word, event-of, event-byte, word-bytes}
 
@@ -33,7 +33,7 @@ transition-at bs at k =
     }
 
 unfoldable pub record-at : List ℕ → ℕ → Record
-record-at bs at = record { names = names-at bs at; count = byte bs (at + count-at); places = table place-count (transition-at bs at) }
+record-at bs at = record { names = names-at bs at; count = byte bs (at + edge-count-at); places = table place-count (transition-at bs at) }
 
 -- ---- the model's converter state
 abbrev pub no-transition : Transition
@@ -54,16 +54,16 @@ abbrev pub events-to : List Event → List ℕ
 events-to es = table side-count (λ i. event-byte (getD es i tick))
 
 abbrev pub transition-to : Transition → List ℕ
-transition-to t = events-to (t .events) ++ word-bytes (t .next)
+transition-to t = events-to (t .events) ++ (0 ∷ word-bytes (t .next))
 
--- the names, the count and the unused byte
+-- the names and the count
 abbrev pub header-to : Record → List ℕ
-header-to r = names-to (r .names) ++ (r .count ∷ 0 ∷ [])
+header-to r = names-to (r .names) ++ (r .count ∷ [])
 
 unfoldable pub places-to : Record → List ℕ
 places-to r = flatten (table place-count (λ k. transition-to (getD (r .places) k no-transition)))
 
--- the 36 bytes of a record
+-- the 52 bytes of a record
 abbrev pub record-to : Record → List ℕ
 record-to r = header-to r ++ places-to r
 

@@ -4,7 +4,7 @@ use Rattle.model.specs.Joined.{side-labels}
 
 -- ---- what a design has
 abbrev pub side-count : ℕ
-side-count = 2
+side-count = 3
 
 abbrev pub most-states : ℕ
 most-states = 16
@@ -15,7 +15,7 @@ most-formulas = 64
 abbrev pub most-rules : ℕ
 most-rules = 16
 
--- Propositions are the labels of every side: of two sides, 0 to 31.
+-- Propositions are the labels of every side: of three sides, 0 to 47.
 abbrev pub last-proposition : ℕ
 last-proposition = side-labels * side-count - 1
 
@@ -56,15 +56,19 @@ abbrev pub rule-bytes : ℕ
 rule-bytes = 1
 
 abbrev pub record-bytes : ℕ
-record-bytes = 36
+record-bytes = 52
 
 abbrev pub count-at : ℕ
 count-at = 2
 
+-- a converter record has its count behind the names
+abbrev pub edge-count-at : ℕ
+edge-count-at = side-count
+
 abbrev pub places-at : ℕ
 places-at = 4
 
--- byte 3 of a state record, of a formula record and of a converter record is not used
+-- byte 3 of a state record and of a formula record is not used
 abbrev pub gap-at : ℕ
 gap-at = 3
 
@@ -72,12 +76,12 @@ gap-at = 3
 abbrev pub move-bytes : ℕ
 move-bytes = 2
 
--- (an event for each side, next record)
+-- (an event for each side, a byte that is not used, next record)
 abbrev pub transition-bytes : ℕ
-transition-bytes = 4
+transition-bytes = 6
 
 abbrev pub next-at : ℕ
-next-at = 2
+next-at = 4
 
 -- ---- blocks: kind, record count, number of the first record (16 bits), records, check (16 bits)
 abbrev pub block-bytes : ℕ
@@ -99,20 +103,25 @@ check-in-block = 510
 abbrev pub word-values : ℕ
 word-values = 65536
 
-abbrev pub design-bytes : ℕ
-design-bytes = 2048
+-- a design has a block for each of two sides at least
+abbrev pub least-sides : ℕ
+least-sides = 2
+
+-- and behind the sides' blocks two more, of formulas and of rules
+abbrev pub other-blocks : ℕ
+other-blocks = 2
 
 -- ---- converters
 -- converter records in a block, and their bytes
 abbrev pub block-records : ℕ
-block-records = 14
+block-records = 9
 
 abbrev pub block-record-bytes : ℕ
-block-record-bytes = 504
+block-record-bytes = 468
 
 abbrev pub most-records : ℕ
 most-records = 65536
 
--- blocks that hold so many records: 4,681 full ones and one of 2 records
+-- blocks that hold so many records: 7,281 full ones and one of 7 records
 abbrev pub most-blocks : ℕ
-most-blocks = 4682
+most-blocks = 7282

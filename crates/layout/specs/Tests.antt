@@ -74,7 +74,7 @@ forms-right fs = every (length fs) (λ k. form-right k (getD fs k truth))
 unfoldable pub rules-right : ℕ → List ℕ → Bool
 rules-right n rs = all (λ r. ltb r n) rs
 
--- ---- 11, of a converter with n records: side states up to 15, 1 to 8 transitions, events in range, no event pair twice, next records that are there
+-- ---- 11, of a converter with n records: side states up to 15, 1 to 8 transitions, events in range, no events twice, next records that are there
 unfoldable pub node-right : ℕ → Node → Bool
 node-right n d =
     all (λ s. ltb s most-states) (d .names)

@@ -85,7 +85,7 @@ pub fn read_record(s: &[u8], at: usize) -> Record
     ensures { λ r. ⌜ r ≡ record-at (now (s .entry)) at ⌝ }
 {
     let names = read_names(s, at);
-    let count = s[at + sizes::COUNT_AT];
+    let count = s[at + sizes::EDGE_COUNT_AT];
     let first = read_transition(s, at, 0);
     let mut places = [first; sizes::PLACES];
     let mut k = 1;
@@ -217,18 +217,18 @@ pub fn write_transition(s: &mut [u8], at: usize, t: Transition)
 {
     let written = t.events;
     write_events(s, at, written);
+    s[at + sizes::SIDES] = 0;
     words::write_word(s, at + sizes::NEXT_AT, t.next);
 }
 
-// The names, the count and the unused byte of a record, written at `at`.
+// The names and the count of a record, written at `at`.
 fn write_header(s: &mut [u8], at: usize, r: Record)
     requires { ⌜ at + places-at ≤ length (now s) ⌝ }
     ensures { λ _. ⌜ now (s .exit) ≡ put (now (s .entry)) at (header-to r) ⌝ }
 {
     let names = r.names;
     write_names(s, at, names);
-    s[at + sizes::COUNT_AT] = r.count;
-    s[at + sizes::GAP_AT] = 0;
+    s[at + sizes::EDGE_COUNT_AT] = r.count;
 }
 
 // The eight places of a record, written at `at`.

@@ -168,7 +168,7 @@ kind-formed s q t =
     (λ (x : T (sends? s (q .moves))). sends-right s q (q .moves) refl x)
     (or-either (not (any-sent (q .moves))) (sends? s (q .moves)) t)
 
-side-formed : (S : Side) → T (side? S) → WellFormedSide S
+pub side-formed : (S : Side) → T (side? S) → WellFormedSide S
 unfolding side?
 side-formed S t =
     let a = leb 1 (length S) in

@@ -1,5 +1,6 @@
 -- The theorems. A visitor reads first: `Judged` (the judge's answer is the path meaning), `Solved` (the method decides), `Runs` (every run is right),
--- `Maps` (ACTL between systems) and `Rows` (the starred rows of the specification).
+-- `Lines` (the duty is what the specification's three lines ask), `Rested` (a resting side more changes no verdict), `Maps` (ACTL between systems) and `Rows`
+-- (the starred rows of the specification).
 
 -- tests, lists and numbers
 pub mod Bools
@@ -27,13 +28,18 @@ pub mod SameEvent
 pub mod StateKinds
 pub mod Joint
 pub mod JointMoves
-pub mod OneEach
-pub mod TwoSides
 pub mod Alone
 pub mod AloneLabels
+pub mod NoneInput
+pub mod Chosen
+pub mod Lines
 pub mod Tally
 pub mod MatchedTest
 pub mod Judged
+-- a resting side behind the others
+pub mod Resting
+pub mod RestedMatched
+pub mod Rested
 -- the method
 pub mod Untils
 pub mod Kept

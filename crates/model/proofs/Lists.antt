@@ -79,6 +79,20 @@ of-map {A} {B} f b (x ∷ xs) i =
     (λ (j : In b (map f xs)). let w = of-map f b xs j in (w .0, there (w .1), w .2))
     (in-cases i)
 
+-- an element of the image
+pub getD-map : {A B : Type 0} (f : A → B) (l : List A) (j : ℕ) (d : A) (e : B) → j < length l → getD (map f l) j e ≡ f (getD l j d)
+getD-map f [] j d e h = absurd (not-suc-le-zero h)
+getD-map f (x ∷ xs) zero d e h = refl
+getD-map f (x ∷ xs) (suc j) d e h = getD-map f xs j d e (omega arith)
+
+-- a list is an image where each member is one
+pub all-images : {A B : Type 0} (f : A → B) (l : List B) → ((b : B) → In b l → (a : A) × (b ≡ f a)) → (k : List A) × (l ≡ map f k)
+all-images f [] h = ([], refl)
+all-images f (x ∷ xs) h =
+    let a = h x (here refl) in
+    let r = all-images f xs (λ b i. h b (there i)) in
+    (a .0 ∷ r .0, cc)
+
 -- a list that isn't empty has a first member
 pub first-in : {A : Type 0} (l : List A) → 0 < length l → (a : A) × In a l
 first-in [] h = absurd (not-suc-le-zero h)

@@ -1,5 +1,5 @@
--- A label belongs to one side: propositions 0 to 15 are the first side's labels, and those from 16 on are the other sides' by themselves. Then the same of a pair,
--- kernel and host.
+-- A label belongs to one side: propositions 0 to 15 are the first side's labels, and those from 16 on are the other sides' by themselves. Then the same of three
+-- sides.
 use mathlib.Core.Path.{_≡_, _∙_}
 use mathlib.Core.Bool.{false}
 use mathlib.Core.List.{List, [], _∷_}
@@ -39,14 +39,27 @@ module _ (S : Side) (Ss : List Side) (s : ℕ) (ss : List ℕ) (p : ℕ) where
   unfolding labelled label-words
   other-sides = other-words (state S s .label) (label-words Ss ss) p
 
--- ---- of a pair: the kernel's labels are 0 to 15, the host's 16 to 31, and none is higher
-module _ (K H : Side) (k h p : ℕ) where
-  pub kernel-label : p < side-labels → labelled (K ∷ H ∷ []) (k ∷ h ∷ []) p ≡ bit (state K k .label) p
-  kernel-label = first-side K (H ∷ []) k (h ∷ []) p
+-- ---- of three sides: the kernel's labels are 0 to 15, the host's 16 to 31, the third side's 32 to 47, and none is higher
+module _ (K H Q : Side) (k h q p : ℕ) where
+  abbrev Ss : List Side
+  Ss = K ∷ H ∷ Q ∷ []
 
-  pub host-label : p < side-labels → labelled (K ∷ H ∷ []) (k ∷ h ∷ []) (side-labels + p) ≡ bit (state H h .label) p
-  host-label l = other-sides K (H ∷ []) k (h ∷ []) p ∙ first-side H [] h [] p l
+  abbrev ss : List ℕ
+  ss = k ∷ h ∷ q ∷ []
 
-  pub no-label : labelled (K ∷ H ∷ []) (k ∷ h ∷ []) (side-labels + (side-labels + p)) ≡ false
+  pub kernel-label : p < side-labels → labelled Ss ss p ≡ bit (state K k .label) p
+  kernel-label = first-side K (H ∷ Q ∷ []) k (h ∷ q ∷ []) p
+
+  pub host-label : p < side-labels → labelled Ss ss (side-labels + p) ≡ bit (state H h .label) p
+  host-label l = other-sides K (H ∷ Q ∷ []) k (h ∷ q ∷ []) p ∙ first-side H (Q ∷ []) h (q ∷ []) p l
+
+  -- what the third side alone says of a proposition
+  behind-two : (x : ℕ) → labelled Ss ss (side-labels + (side-labels + x)) ≡ labelled (Q ∷ []) (q ∷ []) x
+  behind-two x = other-sides K (H ∷ Q ∷ []) k (h ∷ q ∷ []) (side-labels + x) ∙ other-sides H (Q ∷ []) h (q ∷ []) x
+
+  pub third-label : p < side-labels → labelled Ss ss (side-labels + (side-labels + p)) ≡ bit (state Q q .label) p
+  third-label l = behind-two p ∙ first-side Q [] q [] p l
+
+  pub no-label : labelled Ss ss (side-labels + (side-labels + (side-labels + p))) ≡ false
   unfolding labelled label-words
-  no-label = other-sides K (H ∷ []) k (h ∷ []) (side-labels + p) ∙ other-sides H [] h [] p ∙ no-words p
+  no-label = behind-two (side-labels + p) ∙ other-sides Q [] q [] p ∙ no-words p

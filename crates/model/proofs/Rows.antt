@@ -25,19 +25,21 @@ use Rattle.model.proofs.Ways.{both-ways, either-way, ways-all}
 use Rattle.model.proofs.Refuted.{Choice, Refutation, clash, waits, show-at, showing, every-answer, lost, covers, withheld, never, refutes, refuted-none}
 
 -- ---- the refutations behind the rows with 16
--- at this pair of states the sides show these events
-abbrev shown-at : ℕ → ℕ → Event → Event → Choice
-shown-at s t e f = record { at = s ∷ t ∷ []; show = e ∷ f ∷ [] }
+-- at these states of three sides, kernel and third side show these events; no host of the rows sends
+abbrev shown-at : ℕ → ℕ → ℕ → Event → Event → Choice
+shown-at s t v e g = record { at = s ∷ t ∷ v ∷ []; show = e ∷ tick ∷ g ∷ [] }
 
 abbrev refutations : List Refutation
 refutations =
     -- H, the rules as printed. s0 sends 1. If t0 moves with it, s1 waits, against the second rule. If t0 stays, s1 sends 2; by the third rule t0 moves
     -- then, and s0 sends 1 again, against the fourth.
-    clash 3 (shown-at 0 0 (minus 1) tick ∷ shown-at 1 1 tick tick ∷ shown-at 1 0 (minus 2) tick ∷ shown-at 0 1 (minus 1) tick ∷ [])
+    clash 3 (shown-at 0 0 0 (minus 1) tick ∷ shown-at 1 1 0 tick tick ∷ shown-at 1 0 0 (minus 2) tick ∷ shown-at 0 1 0 (minus 1) tick ∷ [])
     -- H, A(true U 1): s0 waits for ever
-    ∷ waits 2 (shown-at 0 0 tick tick ∷ shown-at 0 1 tick tick ∷ [])
+    ∷ waits 2 (shown-at 0 0 0 tick tick ∷ shown-at 0 1 0 tick tick ∷ [])
     -- AX 16 and AX 17: after one tick h1 lacks one label, h2 the other. Lock and menu: the menu is shut at first, and the lock free after one tick.
-    ∷ clash 1 (shown-at 0 0 tick tick ∷ [])
+    ∷ clash 1 (shown-at 0 0 0 tick tick ∷ [])
+    -- The viewer, A(true U 16 ∧ ¬32): v0 sends 1, and v1 waits for ever
+    ∷ waits 4 (shown-at 0 0 0 tick (minus 1) ∷ shown-at 0 0 1 tick tick ∷ shown-at 0 1 1 tick tick ∷ [])
     ∷ []
 
 -- ---- the test

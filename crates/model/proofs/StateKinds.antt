@@ -41,6 +41,22 @@ kind-output-only q h =
     let s : any-sent (q .moves) ≡ true = T-true (any-sent (q .moves)) (sent-any (q .moves) (h .0) (subst⁻¹ (λ (l : List Move). In (h .0) l) (h .1) (here refl)) (h .2)) in
     ap₂ (λ (a b : Bool). cond a (cond b output-only delayed) input) s (ap (λ (l : List Move). eqb (length l) 1) (h .1))
 
+-- the moves of a delayed state, in whichever order
+module _ (s : ℕ) (q : State) (h : IsDelayed s q) where
+  pub sends-in : In (h .0) (q .moves)
+  sends-in =
+      ⊎-elim
+      (λ (e : q .moves ≡ h .0 ∷ h .1 ∷ []). subst⁻¹ (λ (l : List Move). In (h .0) l) e (here refl))
+      (λ (e : q .moves ≡ h .1 ∷ h .0 ∷ []). subst⁻¹ (λ (l : List Move). In (h .0) l) e (there (here refl)))
+      (h .2)
+
+  pub ticks-in : In (h .1) (q .moves)
+  ticks-in =
+      ⊎-elim
+      (λ (e : q .moves ≡ h .0 ∷ h .1 ∷ []). subst⁻¹ (λ (l : List Move). In (h .1) l) e (there (here refl)))
+      (λ (e : q .moves ≡ h .1 ∷ h .0 ∷ []). subst⁻¹ (λ (l : List Move). In (h .1) l) e (here refl))
+      (h .2)
+
 pub kind-delayed : (s : ℕ) (q : State) → IsDelayed s q → kind q ≡ delayed
 unfolding kind
 kind-delayed s q h =
@@ -48,11 +64,7 @@ kind-delayed s q h =
     (λ (e : q .moves ≡ h .0 ∷ h .1 ∷ []). ap (λ (l : List Move). eqb (length l) 1) e)
     (λ (e : q .moves ≡ h .1 ∷ h .0 ∷ []). ap (λ (l : List Move). eqb (length l) 1) e)
     (h .2) in
-    let i : In (h .0) (q .moves) = ⊎-elim
-    (λ (e : q .moves ≡ h .0 ∷ h .1 ∷ []). subst⁻¹ (λ (l : List Move). In (h .0) l) e (here refl))
-    (λ (e : q .moves ≡ h .1 ∷ h .0 ∷ []). subst⁻¹ (λ (l : List Move). In (h .0) l) e (there (here refl)))
-    (h .2) in
-    ap₂ (λ (a b : Bool). cond a (cond b output-only delayed) input) (T-true (any-sent (q .moves)) (sent-any (q .moves) (h .0) i (h .3))) two
+    ap₂ (λ (a b : Bool). cond a (cond b output-only delayed) input) (T-true (any-sent (q .moves)) (sent-any (q .moves) (h .0) (sends-in s q h) (h .3))) two
 
 -- a state has no other kind
 pub kind-only : (k : Kind) (s : ℕ) (q : State) → IsKind k s q → kind q ≡ k
@@ -93,12 +105,12 @@ sent-no-tick (negsuc n) h e = let z : _≡_ {A = ℕ} 0 1 = cc in omega arith
 lone : (x : Move) (l : List Move) → l ≡ x ∷ [] → (m : Move) → In m l → m ≡ x
 lone x l e m i = ⊎-elim (λ (p : m ≡ x). p) (λ (j : In m []). elim j [ ]) (in-cases (subst (λ (k : List Move). In m k) e i))
 
-pair : (x y : Move) (l : List Move) → (l ≡ x ∷ y ∷ []) ⊎ (l ≡ y ∷ x ∷ []) → (m : Move) → In m l → (m ≡ x) ⊎ (m ≡ y)
+pub pair : (x y : Move) (l : List Move) → (l ≡ x ∷ y ∷ []) ⊎ (l ≡ y ∷ x ∷ []) → (m : Move) → In m l → (m ≡ x) ⊎ (m ≡ y)
 pair x y l (inl e) m i = ⊎-elim (λ (p : m ≡ x). inl p) (λ (j : In m (y ∷ [])). inr (lone y (y ∷ []) refl m j)) (in-cases (subst (λ (k : List Move). In m k) e i))
 pair x y l (inr e) m i = ⊎-elim (λ (p : m ≡ y). inr p) (λ (j : In m (x ∷ [])). inl (lone x (x ∷ []) refl m j)) (in-cases (subst (λ (k : List Move). In m k) e i))
 
 -- the move of a state that sends, by what it shows
-show-known : (k : Kind) (s : ℕ) (q : State) → IsKind k s q → (kind q ≡ input → ⊥) → (m w : Move) → In m (q .moves) → In w (q .moves) → shown (m .event) ≡ shown (w .event) → m ≡ w
+pub show-known : (k : Kind) (s : ℕ) (q : State) → IsKind k s q → (kind q ≡ input → ⊥) → (m w : Move) → In m (q .moves) → In w (q .moves) → shown (m .event) ≡ shown (w .event) → m ≡ w
 show-known input s q h n m w i j e = absurd (n (kind-input q h))
 show-known output-only s q h n m w i j e = lone (h .0) (q .moves) (h .1) m i ∙ sym (lone (h .0) (q .moves) (h .1) w j)
 show-known delayed s q h n m w i j e = by (pair (h .0) (h .1) (q .moves) (h .2) m i) (pair (h .0) (h .1) (q .moves) (h .2) w j)
@@ -115,7 +127,7 @@ show-known delayed s q h n m w i j e = by (pair (h .0) (h .1) (q .moves) (h .2) 
     by (inl p) (inr r) = absurd (apart m w p r e)
     by (inr p) (inl r) = absurd (apart w m r p (sym e))
 
-one-shown : (k : Kind) (s : ℕ) (q : State) → IsKind k s q → (kind q ≡ delayed → ⊥) → (m w : Move) → In m (q .moves) → In w (q .moves) → shown (m .event) ≡ shown (w .event)
+pub one-shown : (k : Kind) (s : ℕ) (q : State) → IsKind k s q → (kind q ≡ delayed → ⊥) → (m w : Move) → In m (q .moves) → In w (q .moves) → shown (m .event) ≡ shown (w .event)
 one-shown input s q h n m w i j = shown-unsent (m .event) (h m i) ∙ sym (shown-unsent (w .event) (h w j))
 one-shown output-only s q h n m w i j = ap (λ (x : Move). shown (x .event)) (lone (h .0) (q .moves) (h .1) m i ∙ sym (lone (h .0) (q .moves) (h .1) w j))
 one-shown delayed s q h n m w i j = absurd (n (kind-delayed s q h))

@@ -60,8 +60,7 @@ any-delayed (input ∷ ks) = any-delayed ks
 any-delayed (output-only ∷ ks) = any-delayed ks
 any-delayed (delayed ∷ ks) = true
 
--- The specification says this of two sides, in three lines. `Pairs` has the lines as they are worded, and the duty of two kinds by number; `proofs/TwoSides`
--- shows that all three agree.
+-- The specification says this in three lines. `Lines` has them as they are worded, and `proofs/Lines` shows that the two agree.
 unfoldable pub duty : List Kind → Duty
 duty ks = cond (any-input ks) (cond (any-delayed ks) one-each some) every
 

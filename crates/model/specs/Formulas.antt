@@ -51,7 +51,7 @@ LowerForm k (ag a) = a < k
 abbrev pub Lower : List Form → Type 0
 Lower fs = (k : ℕ) → k < length fs → LowerForm k (getD fs k truth)
 
--- a proposition is a label of one of n sides: from 0 to 31 where there are two
+-- a proposition is a label of one of n sides: from 0 to 47 where there are three
 abbrev pub PropForm : ℕ → Form → Type 0
 PropForm n truth = Unit {0}
 PropForm n falsity = Unit {0}

@@ -3,12 +3,13 @@ pub mod Events
 pub mod Sides
 pub mod Joined
 pub mod Converters
-pub mod Pairs
+pub mod Lines
 pub mod Actl
 pub mod Formulas
 pub mod Designs
 pub mod Positions
 pub mod Judged
+pub mod Resting
 pub mod Runs
 pub mod RowData
 pub mod Rows

@@ -1,6 +1,6 @@
 -- Specification, "Rows": the designs and converters of the starred rows. Label words stand in the states and proposition numbers in the formulas: bit k of the
--- kernel's word is proposition k, bit k of the host's is 16 + k.
-use mathlib.Core.List.{List, [], _∷_, _++_}
+-- kernel's word is proposition k, bit k of the host's is 16 + k and bit k of the third side's 32 + k. Where a row tells of no third side, it is the resting one.
+use mathlib.Core.List.{List, [], _∷_, _++_, map}
 use Prim.Native.Nat.{ℕ, _+_}
 use lib.IntN.{pos}
 use Rattle.model.specs.Events.{Event, tick, dual}
@@ -8,6 +8,7 @@ use Rattle.model.specs.Sides.{Move, State, Side}
 use Rattle.model.specs.Converters.{Edge, Node, Converter}
 use Rattle.model.specs.Formulas.{Form, truth, prop, nprop, conj, disj, ax, au, ag}
 use Rattle.model.specs.Designs.{Design}
+use Rattle.model.specs.Resting.{rested-node, rested-design}
 
 -- ---- as the specification writes them
 abbrev pub plus : ℕ → Event
@@ -28,12 +29,16 @@ labelling w ms = record { label = w; moves = ms }
 abbrev pair : Event → Event → ℕ → Edge
 pair e f c = record { events = e ∷ f ∷ []; next = c }
 
--- the record of (state of side 1, state of side 2)
+-- the record of (state of side 1, state of side 2), with zeros for the third side
 abbrev at : ℕ → ℕ → List Edge → Node
-at s t es = record { names = s ∷ t ∷ []; edges = es }
+at s t es = rested-node (record { names = s ∷ t ∷ []; edges = es })
 
+-- two tables, and three
 abbrev design : List Side → List Form → List ℕ → Design
-design Ss fs rs = record { sides = Ss; forms = fs; rules = rs }
+design Ss fs rs = rested-design (record { sides = Ss; forms = fs; rules = rs })
+
+abbrev design-of-three : Side → Side → Side → List Form → List ℕ → Design
+design-of-three S R Q fs rs = record { sides = S ∷ R ∷ Q ∷ []; forms = fs; rules = rs }
 
 -- ---- the handshake pair H: s0 and s1 beside t0 and t1 (the paper, section 3)
 abbrev pub handshake : List Side
@@ -177,3 +182,87 @@ in-step = at 0 0 (pair tick tick 1 ∷ []) ∷ at 1 1 (pair tick tick 0 ∷ []) 
 -- a formula for proposition p, and one for its absence
 abbrev pub naming : ℕ → Design
 naming p = design lock-menu (prop p ∷ nprop p ∷ []) []
+
+-- ---- the viewer: a host that reads 1 and shows a picture (16) for one tick, beside a kernel that ticks
+abbrev viewer : Side
+viewer = labelling 0 (on tick 0 ∷ on (plus 1) 1 ∷ []) ∷ labelling 1 (on tick 0 ∷ []) ∷ []
+
+-- a third side that makes thumbnails: v0 waits or sends 1; v1, where it is busy (32), has these moves
+abbrev thumbnails : List Move → Side
+thumbnails ms = labelling 0 (on tick 0 ∷ on (minus 1) 1 ∷ []) ∷ labelling 1 ms ∷ []
+
+-- A(true U 16 ∧ ¬32): a picture comes while no thumbnail is made
+abbrev a-picture : List Form
+a-picture = truth ∷ prop 16 ∷ nprop 32 ∷ conj 1 2 ∷ au 0 3 ∷ []
+
+abbrev pub viewer-alone : Design
+viewer-alone = design (ticking ∷ viewer ∷ []) a-picture (4 ∷ [])
+
+-- v1 sends 2 and goes back; or it may wait, too
+abbrev pub viewer-prompt : Design
+viewer-prompt = design-of-three ticking viewer (thumbnails (on (minus 2) 0 ∷ [])) a-picture (4 ∷ [])
+
+abbrev pub viewer-waiting : Design
+viewer-waiting = design-of-three ticking viewer (thumbnails (on (minus 2) 0 ∷ on tick 1 ∷ [])) a-picture (4 ∷ [])
+
+-- (event for each side) to the next record, and the record of (state of each side)
+abbrev triple : Event → Event → Event → ℕ → Edge
+triple e f g c = record { events = e ∷ f ∷ g ∷ []; next = c }
+
+abbrev at-three : ℕ → ℕ → ℕ → List Edge → Node
+at-three s t v es = record { names = s ∷ t ∷ v ∷ []; edges = es }
+
+-- without the third side the picture comes at once, and again after each tick
+abbrev pub picture-at-once : Converter
+picture-at-once = at 0 0 (pair tick (minus 1) 1 ∷ []) ∷ at 0 1 (pair tick tick 0 ∷ []) ∷ []
+
+-- with it: at once if v0 waits, else with the step back to it
+abbrev pub picture-in-time : Converter
+picture-in-time =
+    at-three 0 0 0 (triple tick (minus 1) tick 1 ∷ triple tick tick (plus 1) 2 ∷ [])
+    ∷ at-three 0 1 0 (triple tick tick tick 0 ∷ triple tick tick (plus 1) 2 ∷ [])
+    ∷ at-three 0 0 1 (triple tick (minus 1) (plus 2) 1 ∷ [])
+    ∷ []
+
+-- ---- sides of one state, with these events
+abbrev staying : List Event → Side
+staying es = labelling 0 (map (λ e. on e 0) es) ∷ []
+
+-- a kernel and a third side that send or tick, beside a host that reads 1 or 2
+abbrev pub four-choices : Design
+four-choices = design-of-three (staying (tick ∷ minus 1 ∷ [])) (staying (plus 1 ∷ plus 2 ∷ [])) (staying (minus 3 ∷ tick ∷ [])) [] []
+
+-- one record, each of whose transitions leads back to it
+abbrev alone : List Edge → Converter
+alone es = at-three 0 0 0 es ∷ []
+
+-- one transition for each choice; without the first of them; with one more
+abbrev three-of-four : List Edge
+three-of-four = triple tick (minus 1) tick 0 ∷ triple (plus 1) (minus 2) tick 0 ∷ triple tick (minus 2) (plus 3) 0 ∷ []
+
+abbrev pub one-for-each : Converter
+one-for-each = alone (triple (plus 1) (minus 1) (plus 3) 0 ∷ three-of-four)
+
+abbrev pub one-left-out : Converter
+one-left-out = alone three-of-four
+
+abbrev pub one-too-many : Converter
+one-too-many = alone (triple (plus 1) (minus 1) (plus 3) 0 ∷ triple tick (minus 2) tick 0 ∷ three-of-four)
+
+-- three sides that send or tick
+abbrev pub three-senders : Design
+three-senders = design-of-three (staying (tick ∷ minus 1 ∷ [])) (staying (minus 2 ∷ tick ∷ [])) (staying (tick ∷ minus 3 ∷ [])) [] []
+
+-- all eight joint moves; and these without the one in which all tick
+abbrev seven : List Edge
+seven =
+    triple (plus 1) tick tick 0 ∷ triple tick (plus 2) tick 0 ∷ triple tick tick (plus 3) 0
+    ∷ triple (plus 1) (plus 2) tick 0 ∷ triple (plus 1) tick (plus 3) 0 ∷ triple tick (plus 2) (plus 3) 0
+    ∷ triple (plus 1) (plus 2) (plus 3) 0
+    ∷ []
+
+abbrev pub all-eight : Converter
+all-eight = alone (triple tick tick tick 0 ∷ seven)
+
+abbrev pub seven-of-eight : Converter
+seven-of-eight = alone seven

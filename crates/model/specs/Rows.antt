@@ -11,7 +11,7 @@ use Rattle.model.specs.Designs.{Design, WellFormed, Keeps, Works, NoneWo
 use Rattle.model.specs.Positions.{kept-count, positions}
 use Rattle.model.specs.Judged.{Verdict, accepted, unmatched, violated, judged}
 use Rattle.model.specs.Runs.{done, refused, ticked}
-use Rattle.model.specs.RowData.{plus, minus, H, H-printed, H-mended, H-until, F, F-deaf, F-third, turns, turns-converter, fork-either, fork-two, fork-both, fork-first, fork-open, lock-then-menu, menu-now, lock-next, in-step, naming}
+use Rattle.model.specs.RowData.{plus, minus, H, H-printed, H-mended, H-until, F, F-deaf, F-third, turns, turns-converter, fork-either, fork-two, fork-both, fork-first, fork-open, lock-then-menu, menu-now, lock-next, in-step, naming, viewer-alone, viewer-prompt, viewer-waiting, picture-at-once, picture-in-time, four-choices, one-for-each, one-left-out, one-too-many, three-senders, all-eight, seven-of-eight}
 
 pub data Row : Type 0 where
   -- a design that none of 5 to 7 refuses
@@ -74,7 +74,7 @@ rows =
     -- F without (0,0) in record 0: 14; with a third transition of record 0: 14
     ∷ judge-says H-mended F-deaf unmatched ∷ judge-says H-mended F-third unmatched
     -- F at record 1, shown -2 and 0: to 2, delivered -2 and 1; at record 0, shown -2 and 0: 17
-    ∷ tick-takes F 1 (minus 2 ∷ tick ∷ []) 2 (minus 2 ∷ plus 1 ∷ []) ∷ tick-refused F 0 (minus 2 ∷ tick ∷ []) 17
+    ∷ tick-takes F 1 (minus 2 ∷ tick ∷ tick ∷ []) 2 (minus 2 ∷ plus 1 ∷ tick ∷ []) ∷ tick-refused F 0 (minus 2 ∷ tick ∷ tick ∷ []) 17
     -- two states ticking in turn, AG(A(true U 0) ∧ A(true U 1)): 32 positions, a converter
     ∷ positions-are turns 32 ∷ converter-for turns turns-converter
     -- (AX 16) or (AX 17): 24 positions, a converter; one that enables both inputs: 15
@@ -85,6 +85,13 @@ rows =
     ∷ positions-are lock-then-menu 32 ∷ converter-for lock-then-menu in-step
     -- 19 in place of 3, and 3 in place of 19: 16, and that converter: 15
     ∷ none-for menu-now ∷ judge-says menu-now in-step violated ∷ none-for lock-next ∷ judge-says lock-next in-step violated
-    -- 31 is taken, 32 is refused with 7
-    ∷ well-formed (naming 31) ∷ no-such-label (naming 32)
+    -- 47 is taken, 48 is refused with 7
+    ∷ well-formed (naming 47) ∷ no-such-label (naming 48)
+    -- the viewer: 4 positions and a converter; beside thumbnails 8 positions and a converter; where they may wait: 16
+    ∷ positions-are viewer-alone 4 ∷ converter-for viewer-alone picture-at-once ∷ positions-are viewer-prompt 8 ∷ converter-for viewer-prompt picture-in-time
+    ∷ positions-are viewer-waiting 8 ∷ none-for viewer-waiting
+    -- two delayed sides and one input: exactly one transition for each of four choices
+    ∷ judge-says four-choices one-for-each accepted ∷ judge-says four-choices one-left-out unmatched ∷ judge-says four-choices one-too-many unmatched
+    -- three delayed sides: all eight joint moves
+    ∷ judge-says three-senders all-eight accepted ∷ judge-says three-senders seven-of-eight unmatched
     ∷ []

@@ -12,7 +12,7 @@ use Rattle.layout.specs.Bytes.{part, all-zero}
 use Rattle.layout.specs.Tables.{every}
 use Rattle.layout.specs.Unused.{Layout, state-record, formula-record, size, unused}
 use Rattle.layout.specs.Blocks.{formulas, rules, record-count}
-use Rattle.layout.specs.Designs.{design, side, side-block}
+use Rattle.layout.specs.Designs.{held, design, side, side-block}
 use Rattle.refusals.specs.Refusals.{unused-right}
 use Rattle.layout.proofs.DesignBytes.{side-length, forms-length, rules-length}
 use Rattle.layout.proofs.Tables.{every-true}
@@ -31,23 +31,24 @@ module _ (bs : List ℕ) where
   unfolding unused-right
   side-by-count zero h = refl
   side-by-count (suc zero) h = refl
-  side-by-count (suc (suc i)) h = absurd (omega arith)
+  side-by-count (suc (suc zero)) h = refl
+  side-by-count (suc (suc (suc i))) h = absurd (omega arith)
 
-  pub side-unused : (i : ℕ) → i < side-count
+  pub side-unused : (i : ℕ) → i < side-count → i < held bs
       → unused-right bs (side-block i)
       ≡ (records-zero state-record (block-bytes * i) (length (side (design bs) i)) && behind-zero (block-bytes * i) (size state-record * length (side (design bs) i)))
-  side-unused i h =
+  side-unused i h l =
       side-by-count i h
-      ∙ ap (λ n. records-zero state-record (block-bytes * i) n && behind-zero (block-bytes * i) (size state-record * n)) (sym (side-length bs i h))
+      ∙ ap (λ n. records-zero state-record (block-bytes * i) n && behind-zero (block-bytes * i) (size state-record * n)) (sym (side-length bs i h l))
 
-  pub formulas-unused : unused-right bs formulas
-      ≡ (records-zero formula-record (formulas .at) (length (design bs .forms)) && behind-zero (formulas .at) (size formula-record * length (design bs .forms)))
+  pub formulas-unused : unused-right bs (formulas (held bs))
+      ≡ (records-zero formula-record (formulas (held bs) .at) (length (design bs .forms)) && behind-zero (formulas (held bs) .at) (size formula-record * length (design bs .forms)))
   unfolding unused-right
-  formulas-unused = ap (λ n. records-zero formula-record (formulas .at) n && behind-zero (formulas .at) (size formula-record * n)) (sym (forms-length bs))
+  formulas-unused = ap (λ n. records-zero formula-record (formulas (held bs) .at) n && behind-zero (formulas (held bs) .at) (size formula-record * n)) (sym (forms-length bs))
 
   -- a rule has no unused byte
-  pub rules-unused : unused-right bs rules ≡ behind-zero (rules .at) (length (design bs .rules))
+  pub rules-unused : unused-right bs (rules (held bs)) ≡ behind-zero (rules (held bs) .at) (length (design bs .rules))
   unfolding unused-right unused all-zero all
   rules-unused =
-      ap (λ b. b && behind-zero (rules .at) (1 * record-count bs rules)) (every-true (λ k. all-zero []) (record-count bs rules) (λ k h. refl))
-      ∙ ap (behind-zero (rules .at)) (one-mul (record-count bs rules) ∙ sym (rules-length bs))
+      ap (λ b. b && behind-zero (rules (held bs) .at) (1 * record-count bs (rules (held bs)))) (every-true (λ k. all-zero []) (record-count bs (rules (held bs))) (λ k h. refl))
+      ∙ ap (behind-zero (rules (held bs) .at)) (one-mul (record-count bs (rules (held bs))) ∙ sym (rules-length bs))

@@ -3,28 +3,29 @@
 use mathlib.Core.Path.{_≡_, subst, subst⁻¹}
 use mathlib.Core.Bool.{_&&_}
 use mathlib.Core.Logic.{_↔_}
-use mathlib.Core.List.{List, [], _∷_, List·Memᴰ as In, Memᴰ·append-left as append-left}
+use mathlib.Core.List.{List, [], List·Memᴰ as In}
 use Prim.Native.Nat.{ℕ, _≤_, _<_}
 use native.Mathlib.Omega.{arith}
-use lib.Dec.{T, leb, eqb, leb→le, eqb→eq}
+use lib.Dec.{T}
 use lib.ListN.{length}
 use Rattle.model.specs.Sides.{Side, state, WellFormedState, HasKind, WellFormedSide}
 use Rattle.model.specs.Formulas.{Lower, Propositions}
 use Rattle.model.specs.Designs.{WellFormed}
 use Rattle.model.specs.Judged.{all}
 use Rattle.model.proofs.Bools.{and-both, both-and}
-use Rattle.model.proofs.Lists.{all-in, in-all, of-map}
-use Rattle.layout.specs.Sizes.{side-count, design-bytes}
-use Rattle.layout.specs.Blocks.{Block, formulas, rules, side-blocks, design-blocks, record-count, record-place}
-use Rattle.layout.specs.States.{state-at, state-of}
-use Rattle.layout.specs.Designs.{side-in, design}
+use Rattle.model.proofs.Lists.{all-in, in-all, index-in}
+use Rattle.layout.specs.Sizes.{side-count}
+use Rattle.layout.specs.Blocks.{design-blocks}
+use Rattle.layout.specs.Designs.{held, Whole, design}
 use Rattle.layout.specs.Tests.{side-right, kinds-right, forms-right, rules-right}
+use Rattle.refusals.specs.Counted.{Counted}
 use Rattle.refusals.specs.Refusals.{check-right, header-right, count-right, unused-right, kinds-known, formulas-right, design-refusal}
-use Rattle.layout.proofs.Tables.{length-table}
 use Rattle.layout.proofs.DesignBytes.{sides-length}
 use Rattle.refusals.proofs.StateTests.{side-states-formed, side-kinds-formed}
 use Rattle.refusals.proofs.FormulaTests.{formulas-formed, rules-formed}
 use Rattle.refusals.proofs.Passing.{passes}
+use Rattle.refusals.proofs.DesignBlocks.{length-whole}
+use Rattle.refusals.proofs.CountedBytes.{counted}
 
 -- ---- each test by itself
 -- 5
@@ -60,14 +61,14 @@ formulas-test bs =
 
 -- ---- all of them: what a design that is not refused has passed
 pub record Passed (bs : List ℕ) : Type 0 where
-  pub whole : length bs ≡ design-bytes
-  pub checks : T (all (check-right bs) design-blocks)
-  pub headers : T (all (header-right bs) design-blocks)
-  pub counts : T (all (count-right bs) design-blocks)
+  pub whole : Whole bs
+  pub checks : T (all (check-right bs) (design-blocks (held bs)))
+  pub headers : T (all (header-right bs) (design-blocks (held bs)))
+  pub counts : T (all (count-right bs) (design-blocks (held bs)))
   pub states : T (all side-right (design bs .sides))
   pub kinds : T (all kinds-right (design bs .sides))
   pub formulas : T (formulas-right bs)
-  pub unused : T (all (unused-right bs) design-blocks)
+  pub unused : T (all (unused-right bs) (design-blocks (held bs)))
 
 pub passed : (bs : List ℕ) → design-refusal bs ≡ 0 → Passed bs
 unfolding design-refusal
@@ -81,7 +82,7 @@ passed bs e =
     let h = passes _ _ (omega arith) (g .1) in
     let i = passes _ _ (omega arith) (h .1) in
     record {
-      whole = eqb→eq (length bs) design-bytes (a .0);
+      whole = length-whole bs .0 (a .0);
       checks = b .0;
       headers = c .0;
       counts = d .0;
@@ -91,38 +92,15 @@ passed bs e =
       unused = i .0;
     }
 
--- ---- the limits of a side
-limited : T (all (λ (x : Block). eqb (x .least) 1 && eqb (x .most) 16) side-blocks)
-unfolding all
-limited = tt
-
-side-limits : (b : Block) → In b side-blocks → (b .least ≡ 1) × (b .most ≡ 16)
-side-limits b i =
-    let w = and-both (eqb (b .least) 1) (eqb (b .most) 16) (all-in (λ (x : Block). eqb (x .least) 1 && eqb (x .most) 16) i limited) in
-    (eqb→eq (b .least) 1 (w .0), eqb→eq (b .most) 16 (w .1))
-
-length-side : (bs : List ℕ) (b : Block) → length (side-in bs b) ≡ record-count bs b
-unfolding side-in
-length-side bs b = length-table (λ k. state-of (state-at bs (record-place b k))) (record-count bs b)
-
-side-counted : (bs : List ℕ) (b : Block) → In b side-blocks → T (all (count-right bs) design-blocks) → (1 ≤ length (side-in bs b)) × (length (side-in bs b) ≤ 16)
-unfolding count-right
-side-counted bs b i t =
-    let n = record-count bs b in
-    let w = and-both (leb (b .least) n) (leb n (b .most)) (all-in (count-right bs) (append-left (formulas ∷ rules ∷ []) i) t) in
-    let l : b .least ≤ n = leb→le (b .least) n (w .0) in
-    let m : n ≤ b .most = leb→le n (b .most) (w .1) in
-    let e = side-limits b i in
-    (omega (arith, length-side bs b, e .0, e .1), omega (arith, length-side bs b, e .0, e .1))
-
+-- ---- a side that has a block is within its limits; one that rests is well formed
 side-formed : (bs : List ℕ) → Passed bs → (S : Side) → In S (design bs .sides) → WellFormedSide S
-unfolding design
 side-formed bs p S i =
-    let w = of-map (side-in bs) S side-blocks i in
-    let c = side-counted bs (w .0) (w .1) (p .counts) in
+    let k = index-in [] i in
+    let h : k .0 < side-count = omega (arith, k .1, sides-length bs) in
+    let c = counted bs (p .counts) (p .whole) in
     record {
-      some-state = subst (λ (X : Side). 1 ≤ length X) (w .2) (c .0);
-      at-most-sixteen = subst (λ (X : Side). length X ≤ 16) (w .2) (c .1);
+      some-state = subst (λ (X : Side). 1 ≤ length X) (k .2) (c .some-state (k .0) h);
+      at-most-sixteen = subst (λ (X : Side). length X ≤ 16) (k .2) (c .few-states (k .0) h);
       each = states-test (design bs .sides) .0 (p .states) S i;
       kinds = kinds-test (design bs .sides) .0 (p .kinds) S i;
     }
@@ -141,3 +119,7 @@ well-formed bs e =
       propositions = subst⁻¹ (λ (n : ℕ). Propositions n (design bs .forms)) (sides-length bs) (own-propositions bs e);
       rules-there = f .rules-there;
     }
+
+-- its counts are within their limits
+pub accepted-counts : (bs : List ℕ) → design-refusal bs ≡ 0 → Counted bs
+accepted-counts bs e = let p = passed bs e in counted bs (p .counts) (p .whole)

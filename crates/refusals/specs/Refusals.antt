@@ -1,19 +1,19 @@
 -- Specification, "When a call declines": the refusals as tests of the whole input, and for each caller the list of its numbers in the specification's order.
-use mathlib.Core.Bool.{Bool, _&&_, cond}
+use mathlib.Core.Bool.{Bool, _&&_, _||_, cond}
 use mathlib.Core.List.{List, [], _∷_}
 use Prim.Native.Nat.{ℕ, _+_, _*_, _%_}
 use lib.Dec.{eqb, leb}
 use lib.ListN.{length}
 use Rattle.model.specs.Positions.{positions}
 use Rattle.model.specs.Judged.{all}
-use Rattle.layout.specs.Sizes.{most-positions, record-bytes, first-in-block, check-in-block, design-bytes, most-records}
+use Rattle.layout.specs.Sizes.{most-positions, side-count, least-sides, other-blocks, record-bytes, block-bytes, first-in-block, check-in-block, most-records}
 use Rattle.layout.specs.Tables.{every}
 use Rattle.layout.specs.Bytes.{byte, word, part, check, all-zero, put}
 use Rattle.layout.specs.Formulas.{known-kind}
 use Rattle.layout.specs.Records.{record-at, node-of}
 use Rattle.layout.specs.Unused.{Layout, state-record, formula-record, rule-record, converter-record, unused}
 use Rattle.layout.specs.Blocks.{Block, formulas, design-blocks, record-count, record-place, behind}
-use Rattle.layout.specs.Designs.{design}
+use Rattle.layout.specs.Designs.{held, design}
 use Rattle.layout.specs.Converters.{records}
 use Rattle.layout.specs.Tests.{side-right, kinds-right, forms-right, rules-right, node-right}
 
@@ -57,22 +57,30 @@ block-tests bs b =
     ∷ []
 
 -- ---- 1 to 8: a design
+-- the bytes of a design in which n sides have a block
+abbrev pub design-bytes : ℕ → ℕ
+design-bytes n = block-bytes * (n + other-blocks)
+
+-- four blocks, or five: 2,048 bytes or 2,560
+unfoldable pub length-right : List ℕ → Bool
+length-right bs = eqb (length bs) (design-bytes least-sides) || eqb (length bs) (design-bytes side-count)
+
 unfoldable pub kinds-known : List ℕ → Bool
-kinds-known bs = every (record-count bs formulas) (λ k. known-kind (byte bs (record-place formulas k)))
+kinds-known bs = every (record-count bs (formulas (held bs))) (λ k. known-kind (byte bs (record-place (formulas (held bs)) k)))
 
 unfoldable pub formulas-right : List ℕ → Bool
 formulas-right bs = kinds-known bs && forms-right (design bs .forms) && rules-right (length (design bs .forms)) (design bs .rules)
 
 abbrev pub design-tests : List ℕ → List Test
 design-tests bs =
-    record { number = 1; passes = eqb (length bs) design-bytes }
-    ∷ record { number = 2; passes = all (check-right bs) design-blocks }
-    ∷ record { number = 3; passes = all (header-right bs) design-blocks }
-    ∷ record { number = 4; passes = all (count-right bs) design-blocks }
+    record { number = 1; passes = length-right bs }
+    ∷ record { number = 2; passes = all (check-right bs) (design-blocks (held bs)) }
+    ∷ record { number = 3; passes = all (header-right bs) (design-blocks (held bs)) }
+    ∷ record { number = 4; passes = all (count-right bs) (design-blocks (held bs)) }
     ∷ record { number = 5; passes = all side-right (design bs .sides) }
     ∷ record { number = 6; passes = all kinds-right (design bs .sides) }
     ∷ record { number = 7; passes = formulas-right bs }
-    ∷ record { number = 8; passes = all (unused-right bs) design-blocks }
+    ∷ record { number = 8; passes = all (unused-right bs) (design-blocks (held bs)) }
     ∷ []
 
 unfoldable pub design-refusal : List ℕ → ℕ

@@ -1,4 +1,4 @@
-// A converter in memory: records of 36 bytes, one after the other; refusals 10 and 11, and what each record holds.
+// A converter in memory: records of 52 bytes, one after the other; refusals 10 and 11, and what each record holds.
 ghost use mathlib.Core.Path.{_≡_};
 ghost use mathlib.Core.Bool.{_&&_};
 ghost use Prim.Native.Nat.{_+_, _*_, _<_, _≤_};
@@ -7,14 +7,15 @@ ghost use lib.ListN.{length};
 ghost use Rattle.model.specs.Converters.{node, edge};
 ghost use Rattle.model.specs.Judged.{all};
 ghost use Rattle.layout.specs.Sizes.{record-bytes, most-states, place-count};
+ghost use Rattle.layout.specs.Bytes.{all-zero};
 ghost use Rattle.layout.specs.Records.{node-of, edge-of};
+ghost use Rattle.layout.specs.Unused.{place-gaps};
 ghost use Rattle.layout.specs.Converters.{records, converter};
 ghost use Rattle.layout.specs.Tests.{in-range, node-right};
 ghost use Rattle.refusals.specs.Refusals.{size-right, record-right, records-right, converter-refusal};
 use layout::events;
 use layout::ranges;
 use layout::records;
-use layout::records::Outcome;
 use layout::records::Record;
 use layout::records::Transition;
 use layout::sizes;
@@ -49,7 +50,7 @@ pub fn edge_count(s: &[u8], c: usize) -> usize
     requires { ⌜ c < records (now s) ⌝ }
     ensures { λ r. ⌜ r ≡ length (node (converter (now (s .entry))) c .edges) ⌝ }
 {
-    words::read_byte(s, sizes::RECORD_BYTES * c + sizes::COUNT_AT)
+    words::read_byte(s, sizes::RECORD_BYTES * c + sizes::EDGE_COUNT_AT)
 }
 
 // Its transition k.
@@ -103,8 +104,7 @@ fn transition_right(t: Transition, n: usize) -> bool
     (t.next as usize) < n
 }
 
-// Whether a record by itself is right, among n (11): its transitions are added one by one to a record that has none, so that events
-// that stand twice are found present.
+// Whether a record by itself is right, among n (11).
 fn node_right(r: Record, n: usize) -> bool
     ensures { λ b. ⌜ b ≡ node-right n (node-of r) ⌝ }
 {
@@ -119,20 +119,40 @@ fn node_right(r: Record, n: usize) -> bool
     if sizes::PLACES < count {
         return false;
     }
-    let mut made = Record::new(names);
     let mut k = 0;
-    // The first k transitions are right, and `made` has them.
+    // The first k transitions are right, and no events stand twice among them.
     while k < count {
         let t = r.places[k];
         if !transition_right(t, n) {
             return false;
         }
-        let addition = made.add(t);
-        let outcome = addition.outcome;
-        let Outcome::Added = outcome else {
-            return false;
+        let seen = k as u8;
+        let places = r.places;
+        let before = Record {
+            names: names,
+            count: seen,
+            places: places,
         };
-        made = addition.left;
+        let events = t.events;
+        if before.has(events) {
+            return false;
+        }
+        k += 1;
+    }
+    true
+}
+
+// Whether the byte between the events and the next record is zero in each of the first n places of the record at `at`.
+fn gaps_right(s: &[u8], at: usize, n: usize) -> bool
+    requires { ⌜ (at + record-bytes ≤ length (now s)) × (n ≤ place-count) ⌝ }
+    ensures { λ r. ⌜ r ≡ all-zero (place-gaps n (now (s .entry)) at) ⌝ }
+{
+    let mut k = 0;
+    // It is in the first k.
+    while k < n {
+        if s[at + sizes::PLACES_AT + sizes::TRANSITION_BYTES * k + sizes::SIDES] != 0 {
+            return false;
+        }
         k += 1;
     }
     true
@@ -147,14 +167,14 @@ pub fn record_right(s: &[u8], n: usize, at: usize) -> bool
     if !node_right(r, n) {
         return false;
     }
-    if s[at + sizes::GAP_AT] != 0 {
+    let count = r.count as usize;
+    if !gaps_right(s, at, count) {
         return false;
     }
-    let used = sizes::TRANSITION_BYTES * (r.count as usize);
     ranges::is_zero(
         s,
-        at + sizes::PLACES_AT + used,
-        sizes::RECORD_BYTES - sizes::PLACES_AT - used,
+        at + sizes::PLACES_AT + sizes::TRANSITION_BYTES * count,
+        sizes::TRANSITION_BYTES * (sizes::PLACES - count),
     )
 }
 

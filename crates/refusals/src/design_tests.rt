@@ -1,40 +1,78 @@
 // Refusals 1 to 8 of a design, each over the whole input and in this order.
 ghost use mathlib.Core.Path.{_≡_};
 ghost use mathlib.Core.Bool.{_&&_};
-ghost use Prim.Native.Nat.{_<_};
+ghost use Prim.Native.Nat.{_+_, _<_, _≤_};
 ghost use lib.Dec.{T};
-ghost use lib.ListN.{length};
+ghost use lib.ListN.{length, take};
 ghost use Rattle.model.specs.Judged.{all};
-ghost use Rattle.layout.specs.Sizes.{side-count, design-bytes};
+ghost use Rattle.layout.specs.Sizes.{side-count, other-blocks};
 ghost use Rattle.layout.specs.Blocks.{formulas, rules, side-blocks, design-blocks};
-ghost use Rattle.layout.specs.Designs.{design, side, side-block};
-ghost use Rattle.refusals.specs.Counted.{Counted};
+ghost use Rattle.layout.specs.Designs.{held, Whole, design, side, side-block};
+ghost use Rattle.refusals.specs.Counted.{asked-of, block, Counted};
 ghost use Rattle.layout.specs.Tests.{side-right, kinds-right, forms-right, rules-right};
-ghost use Rattle.refusals.specs.Refusals.{check-right, header-right, count-right, kinds-known, formulas-right, unused-right, design-refusal};
+ghost use Rattle.refusals.specs.Refusals.{length-right, check-right, header-right, count-right, kinds-known, formulas-right, unused-right, design-refusal};
 use crate::blocks;
 use crate::state_tests;
 use layout::designs;
 use layout::sizes;
 
-// ---- 2, 3, 4: block by block. Block i has kind i + 1.
-const BLOCKS: usize = 4;
-// The limits of each block's record count.
-const LEAST: [usize; 4] = [1, 1, 0, 0];
+// ---- 1
 
-const MOST: [usize; 4] = [
-    sizes::MOST_STATES,
-    sizes::MOST_STATES,
-    sizes::MOST_FORMULAS,
-    sizes::MOST_RULES,
-];
+// Whether the bytes are those of a block for each of two sides or of three, and of the two blocks behind them.
+fn length_right(s: &[u8]) -> bool
+    ensures { λ r. ⌜ r ≡ length-right (now (s .entry)) ⌝ }
+{
+    if s.len() == sizes::BLOCK_BYTES * (sizes::LEAST_SIDES + sizes::OTHER_BLOCKS) {
+        return true;
+    }
+    s.len() == sizes::BLOCK_BYTES * (sizes::SIDES + sizes::OTHER_BLOCKS)
+}
+
+// ---- 2, 3, 4: block by block
+
+// What is asked of a block: its kind, and the limits of its record count.
+struct Asked {
+    kind: usize,
+    least: usize,
+    most: usize,
+}
+
+const SIDE_KINDS: [usize; sizes::SIDES] = [1, 2, 6];
+
+// Of block i, where n sides have one: behind theirs stand the formulas, and the rules last.
+fn asked_at(n: usize, i: usize) -> Asked
+    requires { ⌜ (n ≤ side-count) × (i < n + other-blocks) ⌝ }
+    ensures { λ r. ⌜ r ≡ asked-of (block n i) ⌝ }
+{
+    if i < n {
+        return Asked {
+            kind: SIDE_KINDS[i],
+            least: 1,
+            most: sizes::MOST_STATES,
+        };
+    }
+    if i == n {
+        return Asked {
+            kind: 3,
+            least: 0,
+            most: sizes::MOST_FORMULAS,
+        };
+    }
+    Asked {
+        kind: 4,
+        least: 0,
+        most: sizes::MOST_RULES,
+    }
+}
 
 fn checks_right(s: &[u8]) -> bool
-    requires { ⌜ length (now s) ≡ design-bytes ⌝ }
-    ensures { λ r. ⌜ r ≡ all (check-right (now (s .entry))) design-blocks ⌝ }
+    requires { ⌜ Whole (now s) ⌝ }
+    ensures { λ r. ⌜ r ≡ all (check-right (now (s .entry))) (design-blocks (held (now (s .entry)))) ⌝ }
 {
+    let n = designs::held(s) + sizes::OTHER_BLOCKS;
     let mut i = 0;
     // The first i blocks are right.
-    while i < BLOCKS {
+    while i < n {
         if !blocks::check_right(s, sizes::BLOCK_BYTES * i) {
             return false;
         }
@@ -44,13 +82,14 @@ fn checks_right(s: &[u8]) -> bool
 }
 
 fn headers_right(s: &[u8]) -> bool
-    requires { ⌜ length (now s) ≡ design-bytes ⌝ }
-    ensures { λ r. ⌜ r ≡ all (header-right (now (s .entry))) design-blocks ⌝ }
+    requires { ⌜ Whole (now s) ⌝ }
+    ensures { λ r. ⌜ r ≡ all (header-right (now (s .entry))) (design-blocks (held (now (s .entry)))) ⌝ }
 {
+    let n = designs::held(s);
     let mut i = 0;
     // The first i blocks are right.
-    while i < BLOCKS {
-        if !blocks::header_right(s, sizes::BLOCK_BYTES * i, i + 1, 0) {
+    while i < n + sizes::OTHER_BLOCKS {
+        if !blocks::header_right(s, sizes::BLOCK_BYTES * i, asked_at(n, i).kind, 0) {
             return false;
         }
         i += 1;
@@ -59,13 +98,15 @@ fn headers_right(s: &[u8]) -> bool
 }
 
 fn counts_right(s: &[u8]) -> bool
-    requires { ⌜ length (now s) ≡ design-bytes ⌝ }
-    ensures { λ r. ⌜ r ≡ all (count-right (now (s .entry))) design-blocks ⌝ }
+    requires { ⌜ Whole (now s) ⌝ }
+    ensures { λ r. ⌜ r ≡ all (count-right (now (s .entry))) (design-blocks (held (now (s .entry)))) ⌝ }
 {
+    let n = designs::held(s);
     let mut i = 0;
     // The first i blocks are right.
-    while i < BLOCKS {
-        if !blocks::count_right(s, sizes::BLOCK_BYTES * i, LEAST[i], MOST[i]) {
+    while i < n + sizes::OTHER_BLOCKS {
+        let a = asked_at(n, i);
+        if !blocks::count_right(s, sizes::BLOCK_BYTES * i, a.least, a.most) {
             return false;
         }
         i += 1;
@@ -187,8 +228,9 @@ fn formulas_right(s: &[u8]) -> bool
 
 // ---- 8
 
+// The block of side i, which has one.
 fn side_unused_right(s: &[u8], i: usize) -> bool
-    requires { ⌜ Counted (now s) × (i < side-count) ⌝ }
+    requires { ⌜ Counted (now s) × (i < held (now s)) ⌝ }
     ensures { λ r. ⌜ r ≡ unused-right (now (s .entry)) (side-block i) ⌝ }
 {
     let n = designs::state_count(s, i);
@@ -208,11 +250,12 @@ fn side_unused_right(s: &[u8], i: usize) -> bool
 
 fn sides_unused_right(s: &[u8]) -> bool
     requires { ⌜ Counted (now s) ⌝ }
-    ensures { λ r. ⌜ r ≡ all (unused-right (now (s .entry))) side-blocks ⌝ }
+    ensures { λ r. ⌜ r ≡ all (unused-right (now (s .entry))) (take (held (now (s .entry))) side-blocks) ⌝ }
 {
+    let n = designs::held(s);
     let mut i = 0;
     // The first i blocks are right.
-    while i < sizes::SIDES {
+    while i < n {
         if !side_unused_right(s, i) {
             return false;
         }
@@ -223,33 +266,34 @@ fn sides_unused_right(s: &[u8]) -> bool
 
 fn formulas_unused_right(s: &[u8]) -> bool
     requires { ⌜ Counted (now s) ⌝ }
-    ensures { λ r. ⌜ r ≡ unused-right (now (s .entry)) formulas ⌝ }
+    ensures { λ r. ⌜ r ≡ unused-right (now (s .entry)) (formulas (held (now (s .entry)))) ⌝ }
 {
+    let at = designs::formulas_at(s);
     let n = designs::formula_count(s);
     let mut k = 0;
     // The first k records are right.
     while k < n {
         if !blocks::formula_unused_right(
             s,
-            designs::FORMULAS + sizes::RECORDS_IN_BLOCK + sizes::FORMULA_BYTES * k,
+            at + sizes::RECORDS_IN_BLOCK + sizes::FORMULA_BYTES * k,
         ) {
             return false;
         }
         k += 1;
     }
-    blocks::behind_right(s, designs::FORMULAS, sizes::FORMULA_BYTES * n)
+    blocks::behind_right(s, at, sizes::FORMULA_BYTES * n)
 }
 
 fn rules_unused_right(s: &[u8]) -> bool
     requires { ⌜ Counted (now s) ⌝ }
-    ensures { λ r. ⌜ r ≡ unused-right (now (s .entry)) rules ⌝ }
+    ensures { λ r. ⌜ r ≡ unused-right (now (s .entry)) (rules (held (now (s .entry)))) ⌝ }
 {
-    blocks::behind_right(s, designs::RULES, designs::rule_count(s))
+    blocks::behind_right(s, designs::rules_at(s), designs::rule_count(s))
 }
 
 fn unused_right(s: &[u8]) -> bool
     requires { ⌜ Counted (now s) ⌝ }
-    ensures { λ r. ⌜ r ≡ all (unused-right (now (s .entry))) design-blocks ⌝ }
+    ensures { λ r. ⌜ r ≡ all (unused-right (now (s .entry))) (design-blocks (held (now (s .entry)))) ⌝ }
 {
     if !sides_unused_right(s) {
         return false;
@@ -264,7 +308,7 @@ fn unused_right(s: &[u8]) -> bool
 pub fn design_refusal(s: &[u8]) -> u8
     ensures { λ r. ⌜ r ≡ design-refusal (now (s .entry)) ⌝ }
 {
-    if s.len() != sizes::DESIGN_BYTES {
+    if !length_right(s) {
         return 1;
     }
     if !checks_right(s) {

@@ -7,7 +7,7 @@ use row_parts::lines;
 use row_parts::tables;
 
 // The judge's answer as a number, with so many of the lent bytes.
-fn answer(d: &[u8; 2048], converter: &[u8], lent: &mut [u8], room: usize) -> u64
+fn answer(d: &[u8], converter: &[u8], lent: &mut [u8], room: usize) -> u64
     requires { ⌜ room ≤ length (now lent) ⌝ }
 {
     let v = judge::judge(d, converter, &mut lent[0..room]);
@@ -22,7 +22,7 @@ fn same(a: &[u8; 70], b: &[u8; 70]) -> bool {
 }
 
 // The answer, and whether the work is left as it should be: 7 everywhere at first, then 0 in so many bytes.
-fn judged(words: &[u8], d: &[u8; 2048], converter: &[u8], room: usize, cleared: usize)
+fn judged(words: &[u8], d: &[u8], converter: &[u8], room: usize, cleared: usize)
     requires { ⌜ (room ≤ 70) × (cleared ≤ 70) ⌝ }
 {
     let mut lent = [7u8; 70];
@@ -30,6 +30,19 @@ fn judged(words: &[u8], d: &[u8; 2048], converter: &[u8], room: usize, cleared: 
     lines::line(words, answer(d, converter, &mut lent, room));
     layout::ranges::fill(&mut expected, 0, cleared, 0);
     lines::yes_or_no(b"  work as promised", same(&expected, &lent));
+}
+
+// The same of a design of four blocks, and of five.
+fn four_blocks(words: &[u8], d: &[u8; 2048], converter: &[u8], room: usize, cleared: usize)
+    requires { ⌜ (room ≤ 70) × (cleared ≤ 70) ⌝ }
+{
+    judged(words, d, converter, room, cleared);
+}
+
+fn five_blocks(words: &[u8], d: &[u8; 2560], converter: &[u8], room: usize, cleared: usize)
+    requires { ⌜ (room ≤ 70) × (cleared ≤ 70) ⌝ }
+{
+    judged(words, d, converter, room, cleared);
 }
 
 // A converter of the handshake pair against the paper's four rules.
@@ -44,7 +57,7 @@ fn four(words: &[u8], rules: &[u8; 144], converter: &[u8], room: usize, cleared:
         rules,
         &tables::FOUR,
     );
-    judged(words, &d, converter, room, cleared);
+    four_blocks(words, &d, converter, room, cleared);
 }
 
 // And with the fourth mended.
@@ -65,7 +78,7 @@ fn open_fork() {
         &tables::EITHER,
         &rules,
     );
-    judged(
+    four_blocks(
         b"both inputs of h0, (AX 16) or (AX 17)",
         &d,
         &tables::FORK_OPEN,
@@ -80,7 +93,45 @@ fn in_step(words: &[u8], formulas: &[u8], rules: &[u8])
 {
     let mut d = [0u8; 2048];
     designs::design(&mut d, &tables::LOCK, &tables::MENU, formulas, rules);
-    judged(words, &d, &tables::IN_STEP, 70, 32);
+    four_blocks(words, &d, &tables::IN_STEP, 70, 32);
+}
+
+// One record for three sides of one state each, without rules. The kernel ticks or sends 1, the third side sends 3 or ticks.
+fn one_record(words: &[u8], host: &[u8; 20], converter: &[u8; 52]) {
+    let none = [0u8; 0];
+    let mut d = [0u8; 2560];
+    designs::design_of_three(
+        &mut d,
+        &tables::SENDS_1,
+        host,
+        &tables::SENDS_3,
+        &none,
+        &none,
+    );
+    five_blocks(words, &d, converter, 70, 16);
+}
+
+fn three_sides() {
+    one_record(
+        b"two delayed and one input, a transition for each of four choices",
+        &tables::READS,
+        &tables::FOUR_CHOICES,
+    );
+    one_record(
+        b"the same without the last",
+        &tables::READS,
+        &tables::THREE_CHOICES,
+    );
+    one_record(
+        b"three delayed, all eight joint moves",
+        &tables::SENDS_2,
+        &tables::ALL_EIGHT,
+    );
+    one_record(
+        b"the same without the last",
+        &tables::SENDS_2,
+        &tables::SEVEN,
+    );
 }
 
 // A design that 9 keeps from the search is judged.
@@ -94,7 +145,7 @@ fn too_large_to_search() {
         &tables::UNTILS,
         &none,
     );
-    judged(b"F, 196608 positions", &d, &tables::F, 48, 48);
+    four_blocks(b"F, 196608 positions", &d, &tables::F, 48, 48);
 }
 
 pub fn rows() {
@@ -113,9 +164,9 @@ pub fn rows() {
         70,
         64,
     );
-    mended(b"F without its last byte", &tables::F[..107], 70, 0);
+    mended(b"F without its last byte", &tables::F[..155], 70, 0);
     mended(b"a converter of 0 bytes", &tables::F[..0], 70, 0);
-    mended(b"F without its last record", &tables::F[..72], 70, 0);
+    mended(b"F without its last record", &tables::F[..104], 70, 0);
     open_fork();
     in_step(
         b"lock and menu, 3 and AX 19",
@@ -124,6 +175,7 @@ pub fn rows() {
     );
     in_step(b"lock and menu, 19", &tables::MENU_NOW, &[0]);
     in_step(b"lock and menu, AX 3", &tables::LOCK_NEXT, &[1]);
+    three_sides();
     too_large_to_search();
     mended(b"F, 47 bytes of work", &tables::F, 47, 0);
 }

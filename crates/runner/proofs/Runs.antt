@@ -40,13 +40,13 @@ tick-in-model cs ok r xs =
 
 call-in-model : (R : Running) → converter-refusal (R .converter) ≡ 0 → (c : Call) → called-of (called R c) ≡ model.called (running-of R) (call-of c)
 unfolding called model.called
-call-in-model R ok (tick-call x y) =
-    ap (λ (t : model.Ticked). record { answer = t .answer; running = record { converter = converter (R .converter); runner = t .runner } }) (tick-in-model (R .converter) ok (R .runner) (x ∷ y ∷ []))
+call-in-model R ok (tick-call x y z) =
+    ap (λ (t : model.Ticked). record { answer = t .answer; running = record { converter = converter (R .converter); runner = t .runner } }) (tick-in-model (R .converter) ok (R .runner) (x ∷ y ∷ z ∷ []))
 
 -- it lends the converter, and changes none of it
 still-lent : (R : Running) (c : Call) → called R c .running .converter ≡ R .converter
 unfolding called
-still-lent R (tick-call x y) = refl
+still-lent R (tick-call x y z) = refl
 
 -- ---- what the model claims of the decoded run is claimed of the run
 carried : (Ss : List Side) (R : Running) → converter-refusal (R .converter) ≡ 0 → (ss : List ℕ) (cs : List Call) → model.RunRight Ss (running-of R) ss (map call-of cs) → RunRight Ss R ss cs
@@ -67,17 +67,17 @@ module _ (d : List ℕ) (right : design-refusal d ≡ 0) where
   every-run R ok m ss h calls = carried (design d .sides) R ok ss calls (model-runs.every-run (design d .sides) regular (running-of R) m ss h (map call-of calls))
 
   -- From record 0 with any delivered events, and every plain side in state 0.
-  pub every-run-from-start : (cs : List ℕ) → converter-refusal cs ≡ 0 → Matched (design d .sides) (converter cs) → (x y : Event) (calls : List Call)
-      → RunRight (design d .sides) (record { converter = cs; runner = record { «record» = 0; first = x; second = y } }) (zeros (design d .sides)) calls
-  every-run-from-start cs ok m x y calls =
-      every-run (record { converter = cs; runner = record { «record» = 0; first = x; second = y } }) ok m (zeros (design d .sides)) (record { there = m .some-node; names = m .starts }) calls
+  pub every-run-from-start : (cs : List ℕ) → converter-refusal cs ≡ 0 → Matched (design d .sides) (converter cs) → (x y z : Event) (calls : List Call)
+      → RunRight (design d .sides) (record { converter = cs; runner = record { «record» = 0; first = x; second = y; third = z } }) (zeros (design d .sides)) calls
+  every-run-from-start cs ok m x y z calls =
+      every-run (record { converter = cs; runner = record { «record» = 0; first = x; second = y; third = z } }) ok m (zeros (design d .sides)) (record { there = m .some-node; names = m .starts }) calls
 
 -- The same of what a search found, by its promise alone: the first n records of the table that it leaves, where it answers n.
-pub every-run-of-found : (d table work table′ work′ : List ℕ) (n : ℕ) → Searches d table work (Found n) table′ work′ → (x y : Event) (calls : List Call)
-    → RunRight (design d .sides) (record { converter = take (record-bytes * n) table′; runner = record { «record» = 0; first = x; second = y } }) (zeros (design d .sides)) calls
-every-run-of-found d table work table′ work′ n S x y calls =
+pub every-run-of-found : (d table work table′ work′ : List ℕ) (n : ℕ) → Searches d table work (Found n) table′ work′ → (x y z : Event) (calls : List Call)
+    → RunRight (design d .sides) (record { converter = take (record-bytes * n) table′; runner = record { «record» = 0; first = x; second = y; third = z } }) (zeros (design d .sides)) calls
+every-run-of-found d table work table′ work′ n S x y z calls =
     let f = found-in d table work (Found n) table′ work′ S n refl in
-    every-run-from-start d (f .accepted) (take (record-bytes * n) table′) (f .right) (f .works .matched) x y calls
+    every-run-from-start d (f .accepted) (take (record-bytes * n) table′) (f .right) (f .works .matched) x y z calls
 
 -- ---- one tick
 -- of a tick that was done: the sides, in the states ss, showed xs

@@ -13,8 +13,8 @@ use Rattle.runner.specs.Ticks.{delivered, ticked}
 
 -- ---- calls, one after the other. The converter that they lend is part of the run's state.
 pub data Call : Type 0 where
-  -- the events that the two sides show
-  tick-call : Event → Event → Call
+  -- the events that the three sides show
+  tick-call : Event → Event → Event → Call
 
 pub record Running : Type 0 where
   pub converter : List ℕ
@@ -25,13 +25,13 @@ pub record Called : Type 0 where
   pub running : Running
 
 unfoldable pub called : Running → Call → Called
-called R (tick-call x y) =
-    let t = ticked (R .converter) (R .runner) (x ∷ y ∷ []) in
+called R (tick-call x y z) =
+    let t = ticked (R .converter) (R .runner) (x ∷ y ∷ z ∷ []) in
     record { answer = t .answer; running = record { converter = R .converter; runner = t .runner } }
 
 -- ---- in the terms of the model
 abbrev pub call-of : Call → model.Call
-call-of (tick-call x y) = model.tick-call (x ∷ y ∷ [])
+call-of (tick-call x y z) = model.tick-call (x ∷ y ∷ z ∷ [])
 
 abbrev pub answer-of : Answer → model.Answer
 answer-of Done = model.done

@@ -21,7 +21,7 @@ use Rattle.runner.specs.declared.Ticked.{Ticked}
 
 -- the events last delivered
 abbrev pub delivered : Runner → List Event
-delivered r = r .first ∷ r .second ∷ []
+delivered r = r .first ∷ r .second ∷ r .third ∷ []
 
 -- ---- refusals
 -- a shown event: not above 0 and not below -63 (`negsuc n` is -(n + 1))
@@ -48,7 +48,7 @@ refused r k = record { answer = Refused k; runner = r }
 -- ---- the transition that is taken
 -- its next record and its side events become the runner's values
 abbrev pub moved-by : Edge → Runner
-moved-by e = record { «record» = e .next; first = getD (side-events e) 0 tick; second = getD (side-events e) 1 tick }
+moved-by e = record { «record» = e .next; first = getD (side-events e) 0 tick; second = getD (side-events e) 1 tick; third = getD (side-events e) 2 tick }
 
 -- 17 where none fits
 unfoldable pub taken : Runner → Option Edge → Ticked

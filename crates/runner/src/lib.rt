@@ -21,16 +21,18 @@ pub struct Runner {
     pub record: u16,
     pub first: i8,
     pub second: i8,
+    pub third: i8,
 }
 
 impl Runner {
     // The runner at another record, with these events delivered.
-    fn moved(mut self, next: u16, first: i8, second: i8) -> Self
-        ensures { λ r. ⌜ r ≡ record { «record» = next; first = first; second = second } ⌝ }
+    fn moved(mut self, next: u16, first: i8, second: i8, third: i8) -> Self
+        ensures { λ r. ⌜ r ≡ record { «record» = next; first = first; second = second; third = third } ⌝ }
     {
         self.record = next;
         self.first = first;
         self.second = second;
+        self.third = third;
         self
     }
 }
@@ -140,7 +142,7 @@ fn take_first(s: &[u8], c: usize, runner: Runner, shown: [i8; sizes::SIDES]) -> 
         if fits_events(shown, events) {
             return Ticked {
                 answer: Answer::Done,
-                runner: runner.moved(t.next, events[0], events[1]),
+                runner: runner.moved(t.next, events[0], events[1], events[2]),
             };
         }
         k += 1;
@@ -152,11 +154,11 @@ fn take_first(s: &[u8], c: usize, runner: Runner, shown: [i8; sizes::SIDES]) -> 
 }
 
 // A tick with the runner by value.
-pub fn step(converter: &[u8], runner: Runner, first: i8, second: i8) -> Ticked
-    ensures { λ t. ⌜ t ≡ ticked (now (converter .entry)) runner (first ∷ second ∷ []) ⌝ }
+pub fn step(converter: &[u8], runner: Runner, first: i8, second: i8, third: i8) -> Ticked
+    ensures { λ t. ⌜ t ≡ ticked (now (converter .entry)) runner (first ∷ second ∷ third ∷ []) ⌝ }
 {
     let c = runner.record as usize;
-    let shown = [first, second];
+    let shown = [first, second, third];
     let refusal = tick_refusal(converter, c, shown);
     if refusal != 0 {
         return Ticked {
@@ -168,10 +170,10 @@ pub fn step(converter: &[u8], runner: Runner, first: i8, second: i8) -> Ticked
 }
 
 // A tick with the runner lent.
-pub fn tick(converter: &[u8], runner: &mut Runner, first: i8, second: i8) -> Answer
-    ensures { λ a. ⌜ Ticks (now (converter .entry)) (now (runner .entry)) (first ∷ second ∷ []) a (now (runner .exit)) ⌝ }
+pub fn tick(converter: &[u8], runner: &mut Runner, first: i8, second: i8, third: i8) -> Answer
+    ensures { λ a. ⌜ Ticks (now (converter .entry)) (now (runner .entry)) (first ∷ second ∷ third ∷ []) a (now (runner .exit)) ⌝ }
 {
-    let t = step(converter, *runner, first, second);
+    let t = step(converter, *runner, first, second, third);
     *runner = t.runner;
     t.answer
 }

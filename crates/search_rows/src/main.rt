@@ -8,7 +8,7 @@ use row_parts::lines;
 use row_parts::tables;
 
 // How many records the converter found has, 0 where none is found.
-fn found(words: &[u8], d: &[u8; 2048], table: &mut [u8], work: &mut [u8]) -> usize {
+fn found(words: &[u8], d: &[u8], table: &mut [u8], work: &mut [u8]) -> usize {
     let a = search::search(d, table, work);
     match a {
         search::Outcome::Found(n) => {
@@ -33,7 +33,7 @@ fn positions(d: &[u8]) {
 }
 
 // What the judge answers of a converter.
-fn judged(d: &[u8; 2048], converter: &[u8], work: &mut [u8]) {
+fn judged(d: &[u8], converter: &[u8], work: &mut [u8]) {
     let v = judge::judge(d, converter, work);
     match v {
         judge::Verdict::Yes => lines::line(b"  judged", 0),
@@ -42,9 +42,9 @@ fn judged(d: &[u8; 2048], converter: &[u8], work: &mut [u8]) {
 }
 
 // What it answers of the first n records of the table.
-fn judged_front(d: &[u8; 2048], table: &[u8], n: usize, work: &mut [u8]) {
+fn judged_front(d: &[u8], table: &[u8], n: usize, work: &mut [u8]) {
     if n <= 1024 {
-        let end = 36 * n;
+        let end = layout::sizes::RECORD_BYTES * n;
         if end <= table.len() {
             judged(d, &table[0..end], work);
         }
@@ -52,8 +52,8 @@ fn judged_front(d: &[u8; 2048], table: &[u8], n: usize, work: &mut [u8]) {
 }
 
 // Searches with room for 1,024 positions.
-fn searched(words: &[u8], d: &[u8; 2048]) {
-    let mut table = [7u8; 36864];
+fn searched(words: &[u8], d: &[u8]) {
+    let mut table = [7u8; 53248];
     let mut work = [7u8; 16384];
     let n = found(words, d, &mut table, &mut work);
     positions(d);
@@ -62,13 +62,22 @@ fn searched(words: &[u8], d: &[u8; 2048]) {
     }
 }
 
+// A design of four blocks, and one of five.
+fn four_blocks(words: &[u8], d: &[u8; 2048]) {
+    searched(words, d);
+}
+
+fn five_blocks(words: &[u8], d: &[u8; 2560]) {
+    searched(words, d);
+}
+
 // The handshake pair with these formulas and rules.
 fn pair(words: &[u8], formulas: &[u8], rules: &[u8])
     requires { ⌜ (length (now formulas) ≤ formula-bytes * most-formulas) × (length (now rules) ≤ most-rules) ⌝ }
 {
     let mut d = [0u8; 2048];
     designs::design(&mut d, &tables::H_KERNEL, &tables::H_HOST, formulas, rules);
-    searched(words, &d);
+    four_blocks(words, &d);
 }
 
 // The fork with these formulas and rules.
@@ -77,7 +86,7 @@ fn fork(words: &[u8], formulas: &[u8], rules: &[u8])
 {
     let mut d = [0u8; 2048];
     designs::design(&mut d, &tables::TICKING, &tables::FORK, formulas, rules);
-    searched(words, &d);
+    four_blocks(words, &d);
 }
 
 // Lock and menu with these formulas and rules.
@@ -86,7 +95,39 @@ fn lock_and_menu(words: &[u8], formulas: &[u8], rules: &[u8])
 {
     let mut d = [0u8; 2048];
     designs::design(&mut d, &tables::LOCK, &tables::MENU, formulas, rules);
-    searched(words, &d);
+    four_blocks(words, &d);
+}
+
+// Three sides with these formulas and rules: two that only tick, and the fork.
+fn third_fork(words: &[u8], formulas: &[u8], rules: &[u8])
+    requires { ⌜ (length (now formulas) ≤ formula-bytes * most-formulas) × (length (now rules) ≤ most-rules) ⌝ }
+{
+    let mut d = [0u8; 2560];
+    designs::design_of_three(
+        &mut d,
+        &tables::TICKING,
+        &tables::TICKING,
+        &tables::FORK,
+        formulas,
+        rules,
+    );
+    five_blocks(words, &d);
+}
+
+// The handshake pair beside a third side that has a block and only ticks.
+fn pair_and_third(words: &[u8], formulas: &[u8], rules: &[u8])
+    requires { ⌜ (length (now formulas) ≤ formula-bytes * most-formulas) × (length (now rules) ≤ most-rules) ⌝ }
+{
+    let mut d = [0u8; 2560];
+    designs::design_of_three(
+        &mut d,
+        &tables::H_KERNEL,
+        &tables::H_HOST,
+        &tables::TICKING,
+        formulas,
+        rules,
+    );
+    five_blocks(words, &d);
 }
 
 fn in_turn() {
@@ -99,7 +140,7 @@ fn in_turn() {
         &tables::TURNS_ALWAYS,
         &rules,
     );
-    searched(
+    four_blocks(
         b"search: two states in turn, AG(A(true U 0) and A(true U 1))",
         &d,
     );
@@ -135,4 +176,24 @@ fn main() {
     lock_and_menu(b"search: lock and menu, 19", &tables::MENU_NOW, &[0]);
     lock_and_menu(b"search: lock and menu, AX 3", &tables::LOCK_NEXT, &[1]);
     pair(b"search: H, 12 untils", &tables::UNTILS, &none);
+    pair_and_third(
+        b"search: H and a third side, the four rules as printed",
+        &tables::PRINTED,
+        &tables::FOUR,
+    );
+    pair_and_third(
+        b"search: H and a third side, the fourth rule mended",
+        &tables::MENDED,
+        &tables::FOUR,
+    );
+    third_fork(
+        b"search: the third side, (AX 32) or (AX 33)",
+        &tables::THIRD_EITHER,
+        &[4],
+    );
+    third_fork(
+        b"search: the third side, (AX 32) and (AX 33)",
+        &tables::THIRD_BOTH,
+        &[4],
+    );
 }

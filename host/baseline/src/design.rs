@@ -6,8 +6,8 @@ use crate::converter::RECORD;
 use crate::joints;
 use crate::{blank, check, demand, in_range, word};
 
-/// How many sides there are: the kernel, then the host.
-pub const SIDES: usize = 2;
+/// How many sides there are: the kernel, the host and the third side.
+pub const SIDES: usize = 3;
 /// The most states of a side.
 pub const STATES: usize = 16;
 /// The transition places of a state, and of a converter record.
@@ -17,18 +17,11 @@ pub const LABELS: usize = 16;
 /// How many propositions there are: the labels of each side.
 const PROPOSITIONS: usize = LABELS * SIDES;
 
-/// The blocks: one for each side, then the formulas, then the rules.
-const BLOCKS: usize = SIDES + 2;
-const FORMULAS: usize = SIDES;
-const RULES: usize = SIDES + 1;
-
-/// The bytes of a record of each block.
-const RECORD_BYTES: [usize; BLOCKS] = {
-    let mut bytes = [20; BLOCKS];
-    bytes[FORMULAS] = 4;
-    bytes[RULES] = 1;
-    bytes
-};
+/// The kinds of the blocks of sides, at least so many of which there are, and
+/// of the two behind them: the formulas and the rules.
+const SIDE_KINDS: [u8; SIDES] = [1, 2, 6];
+const LEAST_SIDES: usize = 2;
+const OTHER_KINDS: [u8; 2] = [3, 4];
 
 /// An input state: no sent event.
 pub const INPUT: u8 = 0;
@@ -58,6 +51,9 @@ pub struct State {
 const EMPTY: State =
     State { label: 0, kind: INPUT, count: 0, events: [0; PLACES], targets: [0; PLACES] };
 
+/// The one state of a side that has no block: it ticks and stays.
+const RESTING: State = State { count: 1, ..EMPTY };
+
 /// A design.
 pub struct Design {
     /// How many states each side has.
@@ -73,22 +69,31 @@ pub struct Design {
 impl Design {
     /// Reads a design, or declines with 1 to 8.
     pub fn read(bytes: &[u8]) -> Result<Design, u8> {
-        demand(bytes.len() == 512 * BLOCKS, 1)?;
-        let blocks: [&[u8]; BLOCKS] = from_fn(|number| &bytes[512 * number..512 * (number + 1)]);
+        let blocks: Vec<&[u8]> = bytes.chunks_exact(512).collect();
+        let held = blocks.len().saturating_sub(OTHER_KINDS.len());
+        let whole = 512 * blocks.len() == bytes.len();
+        demand(whole && (LEAST_SIDES..=SIDES).contains(&held), 1)?;
+        let (formulas_at, rules_at) = (held, held + 1);
         demand(blocks.iter().all(|block| check(block) == word(block, 510)), 2)?;
-        let headed = |(kind, block): (u8, &&[u8])| block[0] == kind && word(block, 2) == 0;
-        demand((1..).zip(&blocks).all(headed), 3)?;
-        let counts = blocks.map(|block| usize::from(block[1]));
-        let states: [usize; SIDES] = from_fn(|side| counts[side]);
+        let kinds = SIDE_KINDS[..held].iter().chain(&OTHER_KINDS);
+        let headed = |(&kind, block): (&u8, &&[u8])| block[0] == kind && word(block, 2) == 0;
+        demand(kinds.zip(&blocks).all(headed), 3)?;
+        let count = |at: usize| usize::from(blocks[at][1]);
+        let states: [usize; SIDES] = from_fn(|side| if side < held { count(side) } else { 1 });
         let counted = states.iter().all(|count| (1..=STATES).contains(count));
-        demand(counted && counts[FORMULAS] <= 64 && counts[RULES] <= 16, 4)?;
+        demand(counted && count(formulas_at) <= 64 && count(rules_at) <= 16, 4)?;
         // The records of each block, and what is behind them.
-        let parts: [(&[u8], &[u8]); BLOCKS] =
-            from_fn(|at| blocks[at][4..510].split_at(RECORD_BYTES[at] * counts[at]));
-        let records = |at: usize| parts[at].0.chunks_exact(RECORD_BYTES[at]);
+        let size = |at: usize| [20, 4, 1][(at + 1).saturating_sub(held)];
+        let parts: Vec<(&[u8], &[u8])> =
+            (0..blocks.len()).map(|at| blocks[at][4..510].split_at(size(at) * count(at))).collect();
+        let records = |at: usize| parts[at].0.chunks_exact(size(at));
         let mut sides = [[EMPTY; STATES]; SIDES];
-        for side in 0..SIDES {
-            for (state, record) in sides[side].iter_mut().zip(records(side)) {
+        for (side, states_of) in sides.iter_mut().enumerate() {
+            if side >= held {
+                states_of[0] = RESTING;
+                continue;
+            }
+            for (state, record) in states_of.iter_mut().zip(records(side)) {
                 *state = read_state(record, states[side]).ok_or(5)?;
             }
         }
@@ -98,14 +103,14 @@ impl Design {
             }
         }
         let formulas: Vec<[u8; 3]> =
-            records(FORMULAS).map(|record| [record[0], record[1], record[2]]).collect();
+            records(formulas_at).map(|record| [record[0], record[1], record[2]]).collect();
         let right = |(number, formula): (usize, &[u8; 3])| operands_right(number, formula);
         demand(formulas.iter().enumerate().all(right), 7)?;
-        let rules = parts[RULES].0.to_vec();
+        let rules = parts[rules_at].0.to_vec();
         demand(rules.iter().all(|&rule| usize::from(rule) < formulas.len()), 7)?;
         let tails = parts.iter().all(|(_, behind)| blank(behind));
         let unused = |state: &[u8]| state[3] == 0 && blank(&state[4 + 2 * usize::from(state[2])..]);
-        let state_records = (0..SIDES).all(|side| records(side).all(unused));
+        let state_records = (0..held).all(|side| records(side).all(unused));
         let absent = |record: &[u8]| {
             let operands = match record[0] {
                 1 | 2 => 0,
@@ -114,7 +119,7 @@ impl Design {
             };
             blank(&record[1 + operands..])
         };
-        let formula_records = records(FORMULAS).all(absent);
+        let formula_records = records(formulas_at).all(absent);
         demand(tails && state_records && formula_records, 8)?;
         Ok(Design { states, sides, formulas, rules })
     }

@@ -1,9 +1,11 @@
 //! The baseline against the second checker: the same answers and the same
 //! bytes; what the search finds is judged well by the other.
 
+use std::array::from_fn;
+
 use checker::bytes::{
-    converter_bytes, positions, read_blocks, read_design, write_blocks, Design, Formula, State,
-    Transition,
+    converter_bytes, idle_side, positions, read_blocks, read_design, write_blocks, Design, Formula,
+    State, Transition, BLOCK_BYTES, BLOCK_RECORDS, PROPOSITIONS, RECORD_BYTES, SIDES, SIDE_LABELS,
 };
 use checker::generate::{
     any_converter, any_design, block_file, damage, damaged_converter, design, loose_converter,
@@ -54,10 +56,10 @@ fn search_agrees(bytes: &[u8], table_length: usize, work_length: usize) -> u8 {
 fn found_agrees(bytes: &[u8], table: &[u8], records: usize) {
     let size = positions(&read_design(bytes).unwrap()) as usize;
     assert!((1..=size).contains(&records));
-    let found = &table[..36 * records];
+    let found = &table[..RECORD_BYTES * records];
     let judged = checker::judge(bytes, found, &mut vec![0; 16 * records]);
     assert_eq!(judged, Ok(()), "{:?}", read_design(bytes));
-    assert!(table[36 * records..] == pattern(table.len())[36 * records..]);
+    assert!(table[RECORD_BYTES * records..] == pattern(table.len())[RECORD_BYTES * records..]);
 }
 
 #[test]
@@ -76,7 +78,7 @@ fn searches() {
             damage(&mut random, &mut bytes);
         }
         let size = read_design(&bytes).map_or(4, |made| positions(&made).min(1 << 13) as usize);
-        let table_length = about(&mut random, 36 * size);
+        let table_length = about(&mut random, RECORD_BYTES * size);
         let work_length = about(&mut random, 16 * size);
         answers[usize::from(search_agrees(&bytes, table_length, work_length))] += 1;
     }
@@ -92,7 +94,8 @@ fn larger_searches() {
     let mut answers = [0; 18];
     let mut round = 0;
     while round < 150 {
-        let shape = Shape { states: 16, transitions: 4, propositions: 3, formulas: 24, rules: 5 };
+        let shape =
+            Shape { transitions: 4, propositions: 3, formulas: 24, rules: 5, ..Shape::FULL };
         let made = ruled_design(&mut random, &shape);
         let size = positions(&made);
         if !(4_096..=65_536).contains(&size) {
@@ -100,7 +103,7 @@ fn larger_searches() {
         }
         round += 1;
         let size = size as usize;
-        answers[usize::from(search_agrees(&made.to_bytes(), 36 * size, 16 * size))] += 1;
+        answers[usize::from(search_agrees(&made.to_bytes(), RECORD_BYTES * size, 16 * size))] += 1;
     }
     assert!(answers[0] > 10 && answers[16] > 10, "{answers:?}");
 }
@@ -127,30 +130,32 @@ fn rings() {
         Formula::Always(6),
     ];
     for (first, second) in [(16, 15), (7, 5), (16, 16), (1, 16)] {
-        let sides = [ring(first, 1), ring(second, 2)];
+        let sides = [ring(first, 1), ring(second, 2), idle_side()];
         let made = Design { sides, formulas: formulas.clone(), rules: vec![5, 7] };
         let size = positions(&made) as usize;
-        assert_eq!(search_agrees(&made.to_bytes(), 36 * size, 16 * size), 0);
+        assert_eq!(search_agrees(&made.to_bytes(), RECORD_BYTES * size, 16 * size), 0);
     }
 }
 
 /// A proposition is a bit of the label words of one side; there are 16 for each side.
 #[test]
 fn propositions() {
-    for (number, labelled) in (0..=255).flat_map(|number| [(number, 0), (number, 1)]) {
+    let each_side = |number| (0..SIDES).map(move |side| (number, side));
+    for (number, labelled) in (0..=255).flat_map(each_side) {
         let side = |own| {
-            let label = if own == labelled { 1 << (number % 16) } else { 0 };
+            let bit = usize::from(number) % SIDE_LABELS;
+            let label = if own == labelled { 1 << bit } else { 0 };
             vec![State { label, transitions: vec![Transition { event: 0, target: 0 }] }]
         };
         let formulas = vec![Formula::Proposition(number)];
-        let made = Design { sides: [side(0), side(1)], formulas, rules: vec![0] };
-        let expected = match number / 16 {
-            own if own == labelled => 0,
-            0 | 1 => 16,
-            _ => 7,
+        let made = Design { sides: from_fn(side), formulas, rules: vec![0] };
+        let expected = match usize::from(number) {
+            number if number >= PROPOSITIONS => 7,
+            number if number / SIDE_LABELS == labelled => 0,
+            _ => 16,
         };
         let size = positions(&made) as usize;
-        assert_eq!(search_agrees(&made.to_bytes(), 36 * size, 16 * size), expected);
+        assert_eq!(search_agrees(&made.to_bytes(), RECORD_BYTES * size, 16 * size), expected);
     }
 }
 
@@ -169,7 +174,7 @@ fn judgements() {
         if round % 16 == 0 {
             damage(&mut random, &mut bytes);
         }
-        let length = about(&mut random, 16 * (converter.len() / 36));
+        let length = about(&mut random, 16 * (converter.len() / RECORD_BYTES));
         let (mut work, mut other_work) = (pattern(length), pattern(length));
         let answer = baseline::judge(&bytes, &converter, &mut work);
         let other = checker::judge(&bytes, &converter, &mut other_work);
@@ -191,7 +196,8 @@ fn files() {
         if round % 2 == 0 {
             damage(&mut random, &mut file);
         }
-        let length = about(&mut random, 36 * 14 * file.len().div_ceil(512));
+        let length =
+            about(&mut random, RECORD_BYTES * BLOCK_RECORDS * file.len().div_ceil(BLOCK_BYTES));
         let (mut memory, mut other_memory) = (pattern(length), pattern(length));
         let answer = baseline::read(&file, &mut memory);
         assert_eq!(answer, read_blocks(&file, &mut other_memory));
@@ -204,7 +210,7 @@ fn files() {
             0 => damaged_converter(&mut random, &made),
             _ => converter_bytes(&made),
         };
-        let length = about(&mut random, 512 * records.div_ceil(14));
+        let length = about(&mut random, BLOCK_BYTES * records.div_ceil(BLOCK_RECORDS));
         let (mut blocks, mut other_blocks) = (pattern(length), pattern(length));
         assert_eq!(
             baseline::write(&converter, &mut blocks),
@@ -225,7 +231,7 @@ fn ticks() {
         let made = any_design(&mut random);
         let converter = any_converter(&mut random, &made);
         let mut runner = baseline::Runner::default();
-        let mut other = checker::tick::Runner { record: 0, delivered: [0, 0] };
+        let mut other = checker::tick::Runner { record: 0, delivered: [0; SIDES] };
         for shown in script(&mut random, &made, &converter, 20) {
             if random.once_in(40) {
                 runner.record = random.below(1 + converter.len() / 30) as u16;

@@ -1,7 +1,7 @@
 //! What is measured: designs and converters of growing size.
 
 use checker::bytes::{
-    converter_bytes, positions, Design, Formula, Link, Record, State, Transition,
+    converter_bytes, idle_side, positions, Design, Formula, Link, Record, State, Transition, SIDES,
 };
 use checker::generate::{formulas, ruled_design, Random, Shape};
 
@@ -20,12 +20,18 @@ pub fn searched(sizes: usize) -> Vec<(&'static str, Vec<Vec<Design>>)> {
     };
     let climbing = [(4, 2, 4), (8, 4, 4), (16, 8, 4), (16, 12, 5)];
     vec![
-        ("16 by 16 states, an until", kept(&[2, 4, 6, 8], &|kept| grid(16, kept, true))),
-        ("16 by 16 states, no until", kept(&[2, 4, 6, 8], &|kept| grid(16, kept, false))),
-        ("16 by 16 states, an until, 64 joint moves", kept(&[2, 4, 6, 8], &crowded)),
-        ("4 by 4 states, an until", kept(&[6, 8, 10, 12], &|kept| grid(4, kept, true))),
+        ("16 by 16 states, an until", kept(&[2, 4, 6, 8], &|kept| grid(&[16; 2], kept, 1))),
+        ("16 by 16 states, no until", kept(&[2, 4, 6, 8], &|kept| grid(&[16; 2], kept, 0))),
+        (
+            "16 by 16 states, an until, 64 joint moves",
+            kept(&[2, 4, 6, 8], &|kept| crowded(2, kept)),
+        ),
+        ("4 by 4 states, an until", kept(&[6, 8, 10, 12], &|kept| grid(&[4; 2], kept, 1))),
         ("1 by 1 state, rules that are true", kept(&[10, 12, 14, 16], &trivial)),
-        ("rings of 16 and 15, an until under always", kept(&[2, 4, 6, 8], &rings)),
+        (
+            "rings of 16 and 15, an until under always",
+            kept(&[2, 4, 6, 8], &|kept| rings(&[16, 15], kept)),
+        ),
         ("rings of 16 and 15, an always that fails late", kept(&[3, 5, 7], &late)),
         (
             "levels, four or five untils",
@@ -35,11 +41,23 @@ pub fn searched(sizes: usize) -> Vec<(&'static str, Vec<Vec<Design>>)> {
                 .map(|(states, ring_states, untils)| vec![levels(states, ring_states, untils)])
                 .collect(),
         ),
-        ("twenty random designs", each(sizes, |size| random(size, false))),
+        ("twenty random designs of two sides", each(sizes, |size| random(2, size, false))),
         (
             "twenty random sets of rules over rings of 16 and 15",
-            each(sizes, |size| random(size, true)),
+            each(sizes, |size| random(2, size, true)),
         ),
+        ("16 by 16 by 16 states, an until", kept(&[2, 4], &|kept| grid(&[16; 3], kept, 1))),
+        (
+            "16 by 16 by 16 states, an until, 512 joint moves",
+            kept(&[2, 4], &|kept| crowded(3, kept)),
+        ),
+        ("8 by 8 by 8 states, two untils", kept(&[4, 6], &|kept| grid(&[8; 3], kept, 2))),
+        ("4 by 4 by 4 states, an until", kept(&[4, 6, 8, 10], &|kept| grid(&[4; 3], kept, 1))),
+        (
+            "rings of 16, 15 and 7, an until under always",
+            kept(&[2, 4], &|kept| rings(&[16, 15, 7], kept)),
+        ),
+        ("twenty random designs of three sides", each(sizes, |size| random(3, size, false))),
     ]
 }
 
@@ -61,33 +79,71 @@ fn ring(states: usize, last: u16, odd: u16) -> Vec<State> {
     (0..states).map(|own| state(label(own), &turns(own))).collect()
 }
 
-/// Two rings, and rules that keep so many formulas: at some time both are at
-/// their ends, if there is an until; and "in two ticks' time" for the others.
-fn grid(states: usize, kept: usize, until: bool) -> Design {
-    let sides = [ring(states, 0, 1), ring(states, 2, 3)];
-    let mut formulas = both_at_their_ends();
+/// Two or three sides, of which the third is idle where there are two.
+fn beside(sides: impl Iterator<Item = Vec<State>>) -> [Vec<State>; SIDES] {
+    let mut sides: Vec<Vec<State>> = sides.collect();
+    sides.resize_with(SIDES, idle_side);
+    sides.try_into().expect("there are at most three")
+}
+
+/// Rings of so many states. Ring k has label 2k at its end and label 2k + 1 in odd states.
+fn rings_of(counts: &[usize]) -> [Vec<State>; SIDES] {
+    let ring_of = |(side, &states): (usize, &usize)| {
+        let label = 2 * side as u16;
+        ring(states, label, label + 1)
+    };
+    beside(counts.iter().enumerate().map(ring_of))
+}
+
+/// The proposition that ring k is at its end: label 2k of side k.
+fn end_of(side: usize) -> u8 {
+    18 * side as u8
+}
+
+/// Rings of so many states, and rules that keep so many formulas: again and again all are at
+/// their ends, if there is an until; and the last is while the first isn't, if there are two;
+/// and "now or at the next tick" for the others.
+fn grid(counts: &[usize], kept: usize, untils: usize) -> Design {
+    let mut formulas = all_at_their_ends(counts.len());
     let mut rules = Vec::new();
-    let mut count = 0;
-    if until {
-        formulas.extend([Formula::Until(0, 3), Formula::Always(4)]);
-        rules.push(5);
-        count = 2;
+    let mut until = |formulas: &mut Vec<Formula>| {
+        let at = formulas.len();
+        formulas.extend([Formula::Until(0, at - 1), Formula::Always(at)]);
+        rules.push(at as u8 + 1);
+    };
+    if untils > 0 {
+        until(&mut formulas);
     }
-    more_kept(&mut formulas, &mut rules, kept - count);
-    let made = Design { sides, formulas, rules };
-    assert_eq!(made.kept().len(), kept);
+    if untils > 1 {
+        let (at, last) = (formulas.len(), counts.len() - 1);
+        formulas.extend([
+            Formula::Proposition(end_of(last)),
+            Formula::NotProposition(end_of(0)),
+            Formula::And(at, at + 1),
+        ]);
+        until(&mut formulas);
+    }
+    more_kept(&mut formulas, &mut rules, kept - 2 * untils);
+    let made = Design { sides: rings_of(counts), formulas, rules };
+    assert_eq!((made.kept().len(), made.untils().len()), (kept, untils));
     made
 }
 
-/// Formula 3: both rings are at their ends. The host's label 2 is proposition 18.
-fn both_at_their_ends() -> Vec<Formula> {
-    vec![Formula::True, Formula::Proposition(0), Formula::Proposition(18), Formula::And(1, 2)]
+/// Formula 0 is true; the last formula: so many rings are at their ends.
+fn all_at_their_ends(rings: usize) -> Vec<Formula> {
+    let mut formulas = vec![Formula::True];
+    formulas.extend((0..rings).map(|side| Formula::Proposition(end_of(side))));
+    for side in 1..rings {
+        let both = if side == 1 { 1 } else { formulas.len() - 1 };
+        formulas.push(Formula::And(both, side + 1));
+    }
+    formulas
 }
 
 /// The same with an until, where every state has eight transitions.
-fn crowded(kept: usize) -> Design {
-    let mut made = grid(16, kept, true);
-    for side in &mut made.sides {
+fn crowded(rings: usize, kept: usize) -> Design {
+    let mut made = grid(&vec![16; rings], kept, 1);
+    for side in &mut made.sides[..rings] {
         for (own, state) in side.iter_mut().enumerate() {
             let transition =
                 |event: u8| Transition { event: event as i8, target: (own as u8 + event + 1) % 16 };
@@ -119,32 +175,27 @@ fn more_kept(formulas: &mut Vec<Formula>, rules: &mut Vec<u8>, kept: usize) {
 
 /// One ticking state on each side, and so many rules that are true.
 fn trivial(rules: usize) -> Design {
-    let side = || vec![state(0, &[(0, 0)])];
     let formulas = vec![Formula::True; rules];
-    Design { sides: [side(), side()], formulas, rules: (0..rules as u8).collect() }
+    Design { sides: [(); SIDES].map(|()| idle_side()), formulas, rules: (0..rules as u8).collect() }
 }
 
-/// Rings of 16 and 15 states that only tick.
-fn ticking() -> [Vec<State>; 2] {
-    [ring(16, 0, 1), ring(15, 2, 3)].map(|mut states| {
+/// Rings of so many states that only tick.
+fn ticking(counts: &[usize]) -> [Vec<State>; SIDES] {
+    rings_of(counts).map(|mut states| {
         states.iter_mut().for_each(|state| state.transitions.truncate(1));
         states
     })
 }
 
-/// Again and again both rings are at their ends, once in 240 ticks.
-fn rings(kept: usize) -> Design {
-    let mut formulas = both_at_their_ends();
-    formulas.extend([Formula::Until(0, 3), Formula::Always(4)]);
-    let mut rules = vec![5];
-    more_kept(&mut formulas, &mut rules, kept - 2);
-    Design { sides: ticking(), formulas, rules }
+/// Again and again all rings are at their ends, once in as many ticks as there are joint states.
+fn rings(counts: &[usize], kept: usize) -> Design {
+    Design { sides: ticking(counts), ..grid(counts, kept, 1) }
 }
 
 /// Both rings are at their ends at some time, or never: whatever owes the
 /// second is lost, and is found so one tick after the other.
 fn late(kept: usize) -> Design {
-    let mut formulas = both_at_their_ends();
+    let mut formulas = all_at_their_ends(2);
     formulas.extend([
         Formula::Until(0, 3),
         Formula::NotProposition(0),
@@ -155,7 +206,7 @@ fn late(kept: usize) -> Design {
     ]);
     let mut rules = vec![9];
     more_kept(&mut formulas, &mut rules, kept - 3);
-    Design { sides: ticking(), formulas, rules }
+    Design { sides: ticking(&[16, 15]), formulas, rules }
 }
 
 /// A side that climbs through its levels or falls back to the start, beside a
@@ -179,25 +230,27 @@ fn levels(states: usize, ring_states: usize, untils: usize) -> Design {
     }
     formulas.push(Formula::Always(all));
     let rules = vec![formulas.len() as u8 - 1];
-    Design { sides: [side, ring(ring_states, 14, 15)], formulas, rules }
+    Design { sides: [side, ring(ring_states, 14, 15), idle_side()], formulas, rules }
 }
 
-/// Twenty random designs with at most so many positions and more than half;
-/// all of their sides, or only labels and rules over rings that tick on.
-fn random(size: usize, over_rings: bool) -> Vec<Design> {
+/// Twenty random designs of two or three sides, with at most so many positions and more than
+/// half; all of their sides, or only labels and rules over two rings that tick on.
+fn random(sides: usize, size: usize, over_rings: bool) -> Vec<Design> {
     let mut random = Random::new(size as u64);
-    let shape = Shape { states: 16, transitions: 4, propositions: 3, formulas: 24, rules: 5 };
+    let shape =
+        Shape { sides, transitions: 4, propositions: 3, formulas: 24, rules: 5, ..Shape::FULL };
     let mut made = Vec::new();
     while made.len() < 20 {
         let mut design = ruled_design(&mut random, &shape);
         if over_rings {
-            design.sides = [16, 15].map(|states| {
+            design.sides = beside([16, 15].into_iter().map(|states| {
                 let mut label =
                     || if random.once_in(8) { 1 << random.below(shape.propositions) } else { 0 };
                 (0..states).map(|own| state(label(), &[(0, (own + 1) % states)])).collect()
-            });
+            }));
         }
-        if (size as u128 / 2 + 1..=size as u128).contains(&positions(&design)) {
+        let as_many = sides < SIDES || design.sides[SIDES - 1] != idle_side();
+        if as_many && (size as u128 / 2 + 1..=size as u128).contains(&positions(&design)) {
             made.push(design);
         }
     }
@@ -231,7 +284,7 @@ pub fn judged(sizes: usize) -> Vec<(&'static str, Vec<Judged>)> {
 
 /// 64 formulas of every kind over two labels of each side, of which the last 16 are rules.
 fn many_formulas() -> (Vec<Formula>, Vec<u8>) {
-    let shape = Shape { propositions: 2, ..Shape::FULL };
+    let shape = Shape { sides: 2, propositions: 2, ..Shape::FULL };
     (formulas(&mut Random::new(64), &shape, 64), (48..64).collect())
 }
 
@@ -267,20 +320,20 @@ pub fn converters(sizes: usize) -> Vec<Vec<u8>> {
 
 /// A converter over two rings of four states, with two or three random links in each record.
 fn mesh(records: usize, (formulas, rules): (Vec<Formula>, Vec<u8>)) -> Judged {
-    let sides = [ring(4, 0, 1), ring(4, 0, 1)];
+    let sides = [ring(4, 0, 1), ring(4, 0, 1), idle_side()];
     let design = Design { sides, formulas, rules };
     let mut random = Random::new(records as u64);
-    // Record r names the pair of the number r modulo 16.
-    let pair = |number: usize| [number % 16 / 4, number % 4];
+    // Record r names the joint state of the number r modulo 16.
+    let joint = |number: usize| [number % 16 / 4, number % 4, 0];
     let record = |number: usize| {
-        let here = pair(number);
+        let here = joint(number);
         let mut links: Vec<Link> = Vec::new();
         for _ in 0..random.from_to(2, 3) {
             let places = [0, 1].map(|side: usize| {
                 let transitions = &design.sides[side][here[side]].transitions;
                 transitions[random.below(transitions.len())]
             });
-            let events = places.map(|place| -place.event);
+            let events = [-places[0].event, -places[1].event, 0];
             let to = usize::from(places[0].target) * 4 + usize::from(places[1].target);
             let next = (random.below(records / 16) * 16 + to) as u16;
             if links.iter().all(|link| link.events != events) {
@@ -298,12 +351,12 @@ fn mesh(records: usize, (formulas, rules): (Vec<Formula>, Vec<u8>)) -> Judged {
 fn chain(records: usize, shuffled: bool, (formulas, rules): (Vec<Formula>, Vec<u8>)) -> Judged {
     // Ticks stay in state 0, reading 1 leads to state 1 with proposition 0.
     let walking = vec![state(0, &[(0, 0), (1, 1)]), state(1, &[(0, 1)])];
-    let design = Design { sides: [walking, vec![state(0, &[(0, 0)])]], formulas, rules };
+    let design = Design { sides: [walking, idle_side(), idle_side()], formulas, rules };
     let mut order: Vec<usize> = (0..records).collect();
     if shuffled {
         Random::new(records as u64).shuffle(&mut order[1..]);
     }
-    let mut converter = vec![Record { states: [0, 0], links: vec![] }; records];
+    let mut converter = vec![Record { states: [0; SIDES], links: vec![] }; records];
     for (at, &own) in order.iter().enumerate() {
         let end = at + 1 == records;
         let (event, next) = match order.get(at + 1) {
@@ -312,7 +365,7 @@ fn chain(records: usize, shuffled: bool, (formulas, rules): (Vec<Formula>, Vec<u
             Some(&next) => (0, next),
         };
         converter[own].states[0] = u8::from(end);
-        converter[own].links.push(Link { events: [event, 0], next: next as u16 });
+        converter[own].links.push(Link { events: [event, 0, 0], next: next as u16 });
     }
     Judged { design: design.to_bytes(), converter: converter_bytes(&converter) }
 }

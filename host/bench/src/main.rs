@@ -16,7 +16,7 @@ use std::hint::black_box;
 use std::time::{Duration, Instant};
 
 use checker::bytes::{positions, Design};
-use gorzhani::{Refused, BLOCK, CELL, RECORD};
+use gorzhani::{Refused, BLOCK, BLOCK_RECORDS, CELL, RECORD};
 use inputs::Judged;
 
 /// A larger size is left out once a call took this long.
@@ -241,7 +241,7 @@ fn judge(extent: Extent, made: &Judged) -> [Duration; 2] {
 }
 
 fn write(extent: Extent, converter: &[u8]) -> [Duration; 2] {
-    let count = (converter.len() / RECORD).div_ceil(14);
+    let count = (converter.len() / RECORD).div_ceil(BLOCK_RECORDS);
     let mut blocks = vec![0; BLOCK * count];
     let mut other_blocks = blocks.clone();
     let times = extent.shortest([
@@ -254,7 +254,7 @@ fn write(extent: Extent, converter: &[u8]) -> [Duration; 2] {
 
 fn read(extent: Extent, converter: &[u8]) -> [Duration; 2] {
     let records = converter.len() / RECORD;
-    let mut blocks = vec![0; BLOCK * records.div_ceil(14)];
+    let mut blocks = vec![0; BLOCK * records.div_ceil(BLOCK_RECORDS)];
     baseline::write(converter, &mut blocks).expect("the records are right");
     let (mut memory, mut other_memory) = (vec![0; converter.len()], vec![0; converter.len()]);
     let times = extent.shortest([
@@ -271,14 +271,14 @@ fn ticks(extent: Extent, converter: &[u8]) -> [Duration; 2] {
     let library = || {
         let mut runner = gorzhani::Runner::default();
         for _ in 0..TICKS {
-            assert_eq!(black_box(gorzhani::tick(converter, &mut runner, [0, 0])), Ok(()));
+            assert_eq!(black_box(gorzhani::tick(converter, &mut runner, [0; 3])), Ok(()));
         }
-        (runner.record, [runner.first, runner.second])
+        (runner.record, [runner.first, runner.second, runner.third])
     };
     let baseline = || {
         let mut runner = baseline::Runner::default();
         for _ in 0..TICKS {
-            assert_eq!(black_box(baseline::tick(converter, &mut runner, [0, 0])), Ok(()));
+            assert_eq!(black_box(baseline::tick(converter, &mut runner, [0; 3])), Ok(()));
         }
         (runner.record, runner.delivered)
     };

@@ -6,9 +6,9 @@ use std::array::from_fn;
 use std::collections::BTreeSet;
 
 use crate::bytes::{
-    converter_bytes, read_design, seal, write_blocks, Design, Formula, Link, Record, State,
-    StateKind, Transition, BLOCK_BYTES, BLOCK_RECORDS, FORMULA_BYTES, HEADER_BYTES, MOST_STATES,
-    PLACES, RECORD_BYTES, SIDES, SIDE_LABELS,
+    converter_bytes, idle_side, read_design, seal, write_blocks, Design, Formula, Link, Record,
+    State, StateKind, Transition, BLOCK_BYTES, BLOCK_RECORDS, FIVE_BLOCKS, FORMULA_BYTES,
+    HEADER_BYTES, MOST_STATES, PLACES, RECORD_BYTES, SIDES, SIDE_LABELS, THIRD_KIND,
 };
 use crate::joined::{enabling, joint_states, proposition, steps, Enabling, Joint, Step};
 use crate::judge::model;
@@ -70,6 +70,9 @@ impl Random {
 /// How large a random design may be.
 #[derive(Clone, Copy, Debug)]
 pub struct Shape {
+    /// How many sides there are to a design and to its formulas: with two, the third is idle
+    /// and no formula names a label of it.
+    pub sides: usize,
     /// The most states of a side.
     pub states: usize,
     /// The most transitions of an input state.
@@ -85,13 +88,19 @@ pub struct Shape {
 impl Shape {
     /// Small enough to try every converter of three records.
     pub const TINY: Shape =
-        Shape { states: 2, transitions: 2, propositions: 2, formulas: 7, rules: 2 };
+        Shape { sides: SIDES, states: 2, transitions: 2, propositions: 2, formulas: 7, rules: 2 };
     /// A few states and formulas.
     pub const SMALL: Shape =
-        Shape { states: 4, transitions: 3, propositions: 3, formulas: 12, rules: 3 };
+        Shape { states: 4, transitions: 3, propositions: 3, formulas: 12, rules: 3, ..Shape::TINY };
     /// As much as a design holds.
-    pub const FULL: Shape =
-        Shape { states: 16, transitions: 8, propositions: 16, formulas: 64, rules: 16 };
+    pub const FULL: Shape = Shape {
+        sides: SIDES,
+        states: 16,
+        transitions: 8,
+        propositions: 16,
+        formulas: 64,
+        rules: 16,
+    };
 }
 
 /// A well-formed design, mostly a small one.
@@ -108,7 +117,7 @@ pub fn any_design(random: &mut Random) -> Design {
 /// A well-formed design. Its formulas use each other freely, or each rule is
 /// a tree of its own; the latter are more often hard to keep and yet possible.
 pub fn design(random: &mut Random, shape: &Shape) -> Design {
-    let sides = from_fn(|_| side(random, shape));
+    let sides = sides(random, shape);
     if random.once_in(2) {
         let count = random.from_to(0, shape.formulas);
         let formulas = formulas(random, shape, count);
@@ -120,6 +129,16 @@ pub fn design(random: &mut Random, shape: &Shape) -> Design {
     }
 }
 
+/// A design as bytes. Where its third side is idle it has five blocks half of the time,
+/// else four.
+pub fn any_bytes(random: &mut Random, design: &Design) -> Vec<u8> {
+    if random.once_in(2) {
+        design.to_bytes()
+    } else {
+        design.to_five_blocks()
+    }
+}
+
 /// A well-formed design with a rule at least.
 pub fn ruled_design(random: &mut Random, shape: &Shape) -> Design {
     let mut made = design(random, shape);
@@ -127,6 +146,21 @@ pub fn ruled_design(random: &mut Random, shape: &Shape) -> Design {
         made = design(random, shape);
     }
     made
+}
+
+/// The sides of a design. The third is idle at times, and mostly it has fewer states than
+/// the others have.
+pub fn sides(random: &mut Random, shape: &Shape) -> [Vec<State>; SIDES] {
+    [side(random, shape), side(random, shape), third_side(random, shape)]
+}
+
+/// The third side of a design.
+fn third_side(random: &mut Random, shape: &Shape) -> Vec<State> {
+    if shape.sides < SIDES || random.once_in(4) {
+        return idle_side();
+    }
+    let states = random.from_to(1, shape.states);
+    side(random, &Shape { states, ..*shape })
 }
 
 /// A side whose states are of every kind, or one that mostly reads and so
@@ -192,7 +226,7 @@ pub fn formulas(random: &mut Random, shape: &Shape, count: usize) -> Vec<Formula
 
 /// A label of any side, as formulas name it.
 fn any_proposition(random: &mut Random, shape: &Shape) -> u8 {
-    proposition(random.below(SIDES), random.below(shape.propositions))
+    proposition(random.below(shape.sides), random.below(shape.propositions))
 }
 
 /// Formula `number`.
@@ -270,10 +304,8 @@ fn tree(random: &mut Random, shape: &Shape, formulas: &mut Vec<Formula>, depth: 
 /// so with up to three rules the design is well-formed.
 pub fn progress_design(random: &mut Random, shape: &Shape) -> Design {
     let states = random.from_to(2, shape.states.max(2));
-    let mut sides = from_fn(|number| match number {
-        0 => (0..states).map(|own| state(random, shape, own, states, true)).collect(),
-        _ => side(random, shape),
-    });
+    let mut sides = sides(random, shape);
+    sides[0] = (0..states).map(|own| state(random, shape, own, states, true)).collect();
     random.shuffle(&mut sides);
     let mut formulas = Vec::new();
     let count = random.from_to(1, shape.rules);
@@ -330,11 +362,17 @@ pub enum Damage {
     Byte,
     /// One byte or more are others, and the checks are right again.
     Repaired,
+    /// A design has a block more or less, so that its length is a design's.
+    Blocks,
 }
 
 /// Damages the bytes of a design or of a converter file.
 pub fn damage(random: &mut Random, bytes: &mut Vec<u8>) -> Damage {
     match random.below(8) {
+        0 if random.once_in(3) && read_design(bytes).is_ok() => {
+            change_blocks(random, bytes);
+            Damage::Blocks
+        }
         0 => {
             change_length(random, bytes);
             Damage::Length
@@ -362,6 +400,25 @@ pub fn change_length(random: &mut Random, bytes: &mut Vec<u8>) {
         1 => bytes.push(random.byte()),
         2 => bytes.truncate(random.below(length)),
         _ => bytes.resize(length + random.from_to(1, BLOCK_BYTES), 0),
+    }
+}
+
+/// Leaves out one of a design's five blocks, or puts a fifth among four: one of a third
+/// side, or any of them once more. Half of the time it is where a third side's belongs.
+fn change_blocks(random: &mut Random, bytes: &mut Vec<u8>) {
+    let blocks = bytes.len() / BLOCK_BYTES;
+    let place = BLOCK_BYTES * if random.once_in(2) { SIDES - 1 } else { random.below(blocks) };
+    if bytes.len() == FIVE_BLOCKS {
+        bytes.drain(place..place + BLOCK_BYTES);
+    } else {
+        let third = random.once_in(2);
+        let copied = BLOCK_BYTES * random.below(if third { SIDES - 1 } else { blocks });
+        let mut block = bytes[copied..copied + BLOCK_BYTES].to_vec();
+        if third {
+            block[0] = THIRD_KIND;
+            seal(&mut block);
+        }
+        bytes.splice(place..place, block);
     }
 }
 
@@ -397,7 +454,8 @@ pub fn named_propositions(bytes: &[u8]) -> Vec<usize> {
     let names = |number: &usize| {
         matches!(formulas[*number], Formula::Proposition(_) | Formula::NotProposition(_))
     };
-    let place = |number: usize| SIDES * BLOCK_BYTES + HEADER_BYTES + FORMULA_BYTES * number + 1;
+    let first = bytes.len().saturating_sub(2 * BLOCK_BYTES) + HEADER_BYTES;
+    let place = |number: usize| first + FORMULA_BYTES * number + 1;
     (0..formulas.len()).filter(names).map(place).collect()
 }
 
@@ -515,7 +573,7 @@ pub fn lax_converter(design: &Design) -> Vec<Record> {
 /// least fails under the lax converter.
 pub fn planted_design(random: &mut Random, shape: &Shape) -> (Design, Vec<Record>) {
     loop {
-        let sides = from_fn(|_| side(random, shape));
+        let sides = sides(random, shape);
         let formulas = if random.once_in(2) {
             trees(random, shape).0
         } else {

@@ -1,4 +1,4 @@
-//! A second checker for converters between a kernel table and a host table.
+//! A second checker for converters between the tables of a kernel, a host and a third side.
 //!
 //! It answers the same questions as the proved library and is written from the
 //! specification alone: plain parsing, explicit sets of states and of formulas,

@@ -1,11 +1,14 @@
 //! The states in which formulas hold, against paths written out one by one.
 
+mod samples;
+
 use std::array::from_fn;
 
 use checker::bytes::{Formula, SIDES};
 use checker::ctl::{Model, States};
 use checker::generate::{formulas, Random, Shape};
 use checker::joined::{holds, Labels};
+use samples::with_zeros;
 
 /// Every path of `steps` steps from a state.
 fn paths(next: &[Vec<usize>], state: usize, steps: usize) -> Vec<Vec<usize>> {
@@ -86,7 +89,7 @@ fn random_models_against_paths() {
 /// Four states in a row: 0 to 1, 1 to itself or 2, 2 to 3, 3 to itself.
 /// In state 2 proposition 17 holds, in state 3 both 0 and 17, in the others none.
 fn row() -> Model {
-    let labels = vec![[0, 0], [0, 0], [0, 2], [1, 2]];
+    let labels = [[0, 0], [0, 0], [0, 2], [1, 2]].map(with_zeros).to_vec();
     Model::new(labels, vec![vec![1], vec![1, 2], vec![3], vec![3]])
 }
 
@@ -129,7 +132,7 @@ fn a_row_of_states() {
 
 #[test]
 fn until_holds_where_its_second_part_holds_at_once() {
-    let stuck = Model::new(vec![[1, 0]], vec![vec![0]]);
+    let stuck = Model::new(vec![with_zeros([1])], vec![vec![0]]);
     let formulas =
         [Formula::False, Formula::Proposition(0), Formula::Until(0, 1), Formula::Until(1, 0)];
     let holding = stuck.holding(&formulas);

@@ -36,21 +36,36 @@ fn a_proposition_is_one_bit_of_one_side() {
         let all_but_this = labels.map(|word| !word);
         for p in 0..=255 {
             assert_eq!(holds(labels, p), p == named, "{labels:?} {p}");
-            // Above 31 there is no side, and nothing holds.
-            assert_eq!(holds(all_but_this, p), p != named && p < 32, "{all_but_this:?} {p}");
+            // Above 47 there is no side, and nothing holds.
+            assert_eq!(holds(all_but_this, p), p != named && p < 48, "{all_but_this:?} {p}");
         }
     }
 }
 
 #[test]
-fn formulas_name_propositions_up_to_31() {
+fn formulas_name_propositions_up_to_47() {
     for p in 0..=255 {
         for formula in [Formula::Proposition(p), Formula::NotProposition(p)] {
             let sides = ticking([0; SIDES]);
             let design = Design { sides, formulas: vec![formula], rules: vec![0] };
-            let expected = if p < 32 { Ok(design.clone()) } else { Err(7) };
+            let expected = if p < 48 { Ok(design.clone()) } else { Err(7) };
+            assert_eq!(design.to_bytes().len(), 2_048);
             assert_eq!(read_design(&design.to_bytes()), expected);
+            assert_eq!(read_design(&design.to_five_blocks()), expected);
         }
+    }
+}
+
+#[test]
+fn with_four_blocks_the_third_sides_labels_never_hold() {
+    for p in 32..48 {
+        let sides = [u16::MAX, u16::MAX, 0];
+        let formulas = vec![Formula::Proposition(p), Formula::NotProposition(p)];
+        let design =
+            |rule| Design { sides: ticking(sides), formulas: formulas.clone(), rules: vec![rule] };
+        assert_eq!(design(0).to_bytes().len(), 2_048);
+        assert_eq!(searched(&design(0)), Err(16), "{p}");
+        assert!(searched(&design(1)).is_ok(), "{p}");
     }
 }
 
@@ -58,7 +73,7 @@ fn formulas_name_propositions_up_to_31() {
 fn every_way_to_decide_asks_the_same_side() {
     let converter = [record([0; SIDES], &[([0; SIDES], 0)])];
     for (labels, named) in single_bits() {
-        for p in 0..32 {
+        for p in 0..48 {
             for formula in [Formula::Proposition(p), Formula::NotProposition(p)] {
                 let right = matches!(formula, Formula::Proposition(_)) == (p == named);
                 let sides = ticking(labels);
@@ -83,8 +98,8 @@ fn holds_of_some_side(design: &Design, joint: Joint, p: u8) -> bool {
 fn some_side_has_every_label_asked_for() {
     // 3 and 19 are asked at the start, AX 19 and AX 3 at the one joint state that comes next.
     for p in [3, 19] {
-        assert!(holds_of_some_side(&lock_and_menu(), [0, 0], p));
-        assert!(holds_of_some_side(&lock_and_menu(), [1, 1], p));
+        assert!(holds_of_some_side(&lock_and_menu(), [0, 0, 0], p));
+        assert!(holds_of_some_side(&lock_and_menu(), [1, 1, 0], p));
     }
     for design in mistaken_labels().into_iter().chain([lock_and_menu()]) {
         let taken_for_either = of_some_side(&design);
@@ -101,7 +116,7 @@ fn definition_two_is_what_is_compared_with() {
     let mut random = Random::new(31);
     for _ in 0..2_000 {
         let sides = ticking(from_fn(|_| random.bits() as u16));
-        let p = random.below(32) as u8;
+        let p = random.below(48) as u8;
         let formulas = vec![Formula::Proposition(p), Formula::NotProposition(p)];
         let design = Design { sides, formulas, rules: vec![0, 1] };
         let converter = [record([0; SIDES], &[([0; SIDES], 0)])];

@@ -8,7 +8,7 @@ use std::collections::HashSet;
 use std::mem::{discriminant, Discriminant};
 
 use checker::brute::{try_all, Outcome};
-use checker::bytes::{positions, Design, Formula};
+use checker::bytes::{idle_side, positions, Design, Formula, State};
 use checker::generate::{planted_design, progress_design, ruled_design, Random, Shape};
 use checker::judge::{failing_rules, matched};
 use checker::none::no_converter;
@@ -16,7 +16,7 @@ use checker::search::find;
 use meanings::rewritten;
 use samples::{
     handshake, hub, lock_and_menu, mistaken_labels, next_sixteen_next_seventeen, rings,
-    ruled_handshake, state, ticking_in_turn, two_inputs,
+    ruled_handshake, state, three_rings, ticking_in_turn, two_inputs,
 };
 
 /// The most positions of a random design here. The tableau is for small ones.
@@ -50,6 +50,8 @@ struct Agreed {
     /// None, although there is a converter if until formulas are forgotten
     /// after they were put off twice: only the whole path tells.
     none_in_the_long_run: usize,
+    /// How often no side was idle.
+    three_sided: usize,
     /// The kinds of formulas that occurred.
     kinds: HashSet<Discriminant<Formula>>,
 }
@@ -57,8 +59,11 @@ struct Agreed {
 impl Agreed {
     /// Shows what was counted.
     fn show(&self) {
-        let Agreed { found, none, none_in_the_long_run, .. } = self;
-        println!("found {found}, none {none}, in the long run {none_in_the_long_run}");
+        let Agreed { found, none, none_in_the_long_run, three_sided, .. } = self;
+        println!(
+            "found {found}, none {none}, in the long run {none_in_the_long_run}, \
+             no side idle {three_sided}"
+        );
     }
 }
 
@@ -74,6 +79,7 @@ fn agreed(designs: usize, mut made: impl FnMut() -> Design) -> Agreed {
         agreed.none += usize::from(none);
         let in_the_long_run = none && !search_says_none(&forgetful(&design));
         agreed.none_in_the_long_run += usize::from(in_the_long_run);
+        agreed.three_sided += usize::from(!design.sides.contains(&idle_side()));
     }
     agreed
 }
@@ -103,6 +109,7 @@ fn against_the_search_on_any_rules() {
         agreed.show();
         assert!(agreed.found > 1_500 && agreed.none > 1_500, "{agreed:?}");
         assert!(agreed.none_in_the_long_run > 50, "{agreed:?}");
+        assert!(agreed.three_sided > 3_000, "{agreed:?}");
         assert_eq!(agreed.kinds.len(), 9, "{agreed:?}");
     }
 }
@@ -117,6 +124,7 @@ fn against_the_search_on_rules_that_want_progress() {
         agreed.show();
         assert!(agreed.found > 1_000 && agreed.none > 1_000, "{agreed:?}");
         assert!(agreed.none_in_the_long_run > 700, "{agreed:?}");
+        assert!(agreed.three_sided > 3_000, "{agreed:?}");
     }
 }
 
@@ -124,7 +132,7 @@ fn against_the_search_on_rules_that_want_progress() {
 fn against_every_small_converter() {
     let mut random = Random::new(23);
     let (mut found, mut none) = (0, 0);
-    for round in 0..4_000 {
+    for round in 0..5_000 {
         let design = few_positions(|| match round % 2 {
             0 => ruled_design(&mut random, &Shape::TINY),
             _ => progress_design(&mut random, &Shape::TINY),
@@ -169,6 +177,7 @@ fn rows_with_a_converter() {
         two_inputs(one_of_two, vec![4]),
         lock_and_menu(),
         rings(Formula::Always(14)),
+        three_rings(Formula::Always(9)),
     ];
     for design in rows {
         assert!(!no_converter(&design), "{design:?}");
@@ -243,9 +252,7 @@ fn all_next_states_keep_the_same_part() {
         Formula::Next(1),
         Formula::Or(2, 3),
     ];
-    let sides = [sender(&[0]), sender(&[])];
-    let design = Design { sides, formulas: formulas.clone(), rules: vec![4] };
-    assert!(no_converter(&design));
-    let design = Design { sides: [sender(&[]), sender(&[])], formulas, rules: vec![4] };
-    assert!(!no_converter(&design));
+    let design = |sides: [Vec<State>; 2]| samples::design(sides, formulas.clone(), vec![4]);
+    assert!(no_converter(&design([sender(&[0]), sender(&[])])));
+    assert!(!no_converter(&design([sender(&[]), sender(&[])])));
 }

@@ -1,17 +1,28 @@
-//! The rows of the specification. Every expected value is written from it.
+//! The rows of the specification that have two sides. Every expected value is written
+//! from it.
 
 mod samples;
 
-use checker::bytes::{
-    check, converter_bytes, positions, read_design, Design, Formula, Record, SIDES,
-};
+use checker::bytes::{check, converter_bytes, positions, read_design, Formula, Record, SIDES};
 use checker::judge::failing_rules;
 use checker::tick::Runner;
 use samples::{
-    figure_five, handshake, judged_well, lock_and_menu, lock_and_menu_converter, mistaken_labels,
-    next_sixteen_next_seventeen, record, rings, ruled_handshake, searched, state, ticking_in_turn,
-    two_inputs,
+    design, figure_five, handshake, judged_well, lock_and_menu, lock_and_menu_converter,
+    mistaken_labels, next_sixteen_next_seventeen, record, rings, ruled_handshake, searched, state,
+    ticking_in_turn, two_inputs,
 };
+
+#[test]
+fn rows_of_two_sides_have_four_blocks() {
+    let waiting = handshake(vec![Formula::True], vec![0]);
+    let inputs = two_inputs(next_sixteen_next_seventeen(), vec![2]);
+    let [first, second] = mistaken_labels();
+    let rows = [waiting, ticking_in_turn(), inputs, lock_and_menu(), first, second];
+    for design in rows.into_iter().chain([rings(Formula::Always(14)), ruled_handshake(true)]) {
+        assert_eq!(design.to_bytes().len(), 2_048);
+        assert_eq!(read_design(&design.to_bytes()), Ok(design));
+    }
+}
 
 #[test]
 fn handshake_without_rules() {
@@ -55,7 +66,7 @@ fn waiting_for_ever() {
 fn figure_five_unmatched() {
     for design in [handshake(vec![], vec![]), ruled_handshake(true), ruled_handshake(false)] {
         let mut without = figure_five();
-        assert_eq!(without[0].links.remove(1).events, [0, 0]);
+        assert_eq!(without[0].links.remove(1).events, [0; SIDES]);
         assert_eq!(judged_well(&design, &converter_bytes(&without)), Err(14));
 
         // A fourth record does no harm as long as nothing leads there.
@@ -70,13 +81,13 @@ fn figure_five_unmatched() {
 #[test]
 fn figure_five_ticking() {
     let converter = converter_bytes(&figure_five());
-    let mut runner = Runner { record: 1, delivered: [5, 6] };
-    assert_eq!(checker::tick(&converter, &mut runner, [-2, 0]), Ok(()));
-    assert_eq!(runner, Runner { record: 2, delivered: [-2, 1] });
+    let mut runner = Runner { record: 1, delivered: [5, 6, 7] };
+    assert_eq!(checker::tick(&converter, &mut runner, [-2, 0, 0]), Ok(()));
+    assert_eq!(runner, Runner { record: 2, delivered: [-2, 1, 0] });
 
-    let start = Runner { record: 0, delivered: [5, 6] };
+    let start = Runner { record: 0, delivered: [5, 6, 7] };
     let mut runner = start;
-    assert_eq!(checker::tick(&converter, &mut runner, [-2, 0]), Err(17));
+    assert_eq!(checker::tick(&converter, &mut runner, [-2, 0, 0]), Err(17));
     assert_eq!(runner, start);
 }
 
@@ -88,7 +99,7 @@ fn two_states_ticking_in_turn() {
 }
 
 /// A converter for the two inputs that enables some of them.
-fn enabling(inputs: &[([i8; SIDES], u16)]) -> Vec<Record> {
+fn enabling(inputs: &[([i8; 2], u16)]) -> Vec<Record> {
     vec![record([0, 0], inputs), record([0, 1], &[([0, 0], 1)]), record([0, 2], &[([0, 0], 2)])]
 }
 
@@ -134,8 +145,10 @@ fn lock_and_menu_are_told_apart() {
 fn propositions_at_the_edge() {
     for literal in [Formula::Proposition, Formula::NotProposition] {
         let naming = |proposition| handshake(vec![literal(proposition)], vec![0]);
-        assert_eq!(read_design(&naming(31).to_bytes()), Ok(naming(31)));
-        assert_eq!(read_design(&naming(32).to_bytes()), Err(7));
+        for taken in [31, 32, 47] {
+            assert_eq!(read_design(&naming(taken).to_bytes()), Ok(naming(taken)));
+        }
+        assert_eq!(read_design(&naming(48).to_bytes()), Err(7));
     }
 }
 
@@ -156,11 +169,7 @@ fn sixteen_and_sixteen_states() {
 
 #[test]
 fn events_at_the_edge() {
-    let sending = |event| Design {
-        sides: [vec![state(&[], &[(event, 0)])], vec![state(&[], &[(0, 0)])]],
-        formulas: vec![],
-        rules: vec![],
-    };
+    let sending = |event| design([vec![state(&[], &[(event, 0)])]], vec![], vec![]);
     assert_eq!(read_design(&sending(-63).to_bytes()), Ok(sending(-63)));
     assert_eq!(read_design(&sending(-64).to_bytes()), Err(5));
     assert_eq!(read_design(&sending(63).to_bytes()), Ok(sending(63)));
@@ -170,13 +179,9 @@ fn events_at_the_edge() {
 
 #[test]
 fn tick_to_another_state_beside_a_sent_event() {
-    let waiting = |target| Design {
-        sides: [
-            vec![state(&[], &[(0, target), (-1, 0)]), state(&[], &[(0, 0)])],
-            vec![state(&[], &[(0, 0)])],
-        ],
-        formulas: vec![],
-        rules: vec![],
+    let waiting = |target| {
+        let side = vec![state(&[], &[(0, target), (-1, 0)]), state(&[], &[(0, 0)])];
+        design([side], vec![], vec![])
     };
     assert_eq!(read_design(&waiting(0).to_bytes()), Ok(waiting(0)));
     assert_eq!(read_design(&waiting(1).to_bytes()), Err(6));

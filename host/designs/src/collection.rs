@@ -11,6 +11,8 @@ pub fn examples() -> Vec<Example> {
         handshake_as_printed(),
         lock(),
         lock_without_end(),
+        thumbnails(),
+        thumbnails_untold(),
         mutual_exclusion(),
         missionaries(),
         ack_nack(),
@@ -35,7 +37,7 @@ fn handshake_with(
         about: "\
 The handshake side sends a request and, after a wait as long as it likes, a grant. The serial side waits for the request and then wants
 the grant at the very next tick. The converter has to hold the request back until the grant is there.",
-        sides: [
+        sides: vec![
             Side {
                 title: "handshake",
                 states: vec![
@@ -104,6 +106,18 @@ serial has to move to t0 as well, and the handshake side may wait, which breaks 
     )
 }
 
+/// The user's drag, which waits to be given the lock.
+fn drag() -> Side {
+    Side {
+        title: "the user's drag",
+        states: vec![
+            state("idle", &[], &[(Tick, "idle"), (Send("press"), "waiting")]),
+            state("waiting", &["waits"], &[(Tick, "waiting"), (Read("go"), "dragging")]),
+            state("dragging", &["drags"], &[(Tick, "dragging"), (Send("drop"), "idle")]),
+        ],
+    }
+}
+
 /// The model lock, with a thumbnail job that is as given.
 fn lock_with(
     name: &'static str,
@@ -118,7 +132,7 @@ fn lock_with(
         about: "\
 The kernel owns the model lock and gives it to a drag of the host or to a thumbnail job of its own. The user starts to drag and lets go
 at any time; a drag that waits shall get the lock before any thumbnail job, and thumbnails shall still be made.",
-        sides: [
+        sides: vec![
             Side {
                 title: "the model lock",
                 states: vec![
@@ -131,22 +145,15 @@ at any time; a drag that waits shall get the lock before any thumbnail job, and 
                     job,
                 ],
             },
-            Side {
-                title: "the user's drag",
-                states: vec![
-                    state("idle", &[], &[(Tick, "idle"), (Send("press"), "waiting")]),
-                    state("waiting", &["waits"], &[(Tick, "waiting"), (Read("go"), "dragging")]),
-                    state("dragging", &["drags"], &[(Tick, "dragging"), (Send("drop"), "idle")]),
-                ],
-            },
+            drag(),
         ],
         signals: vec!["lock", "thumbnail", "release", "done", "press", "go", "drop"],
         propositions: vec!["held", "thumb", "waits", "drags"],
         rules: vec![
-            ("The host drags only while the drag holds the lock.", ag(p("drags").implies(p("held")))),
             (
-                "A drag that waits while no thumbnail job runs gets the lock before any thumbnail job.",
-                ag((p("waits") & !p("thumb")).implies(until(!p("thumb"), p("drags")))),
+                "The host drags only while the drag holds the lock; and a drag that waits while no thumbnail job runs gets it before any thumbnail job.",
+                ag(p("drags").implies(p("held"))
+                    & (p("waits") & !p("thumb")).implies(until(!p("thumb"), p("drags")))),
             ),
             (
                 "A drag that waits gets the lock in the end; and again and again a thumbnail job runs, or a drag waits or has the lock.",
@@ -177,9 +184,87 @@ fn lock_without_end() -> Example {
         state("job", &["thumb"], &[(Tick, "job"), (Send("done"), "free")]),
         Verdict::None,
         "\
-Only one transition differs from [lock](lock.md): here a job may keep the lock for as long as it likes. The third rule wants a job started
+Only one transition differs from [lock](lock.md): here a job may keep the lock for as long as it likes. The second rule wants a job started
 while the user rests; the user may press during it, and then the job may go on for ever while the drag waits. A converter can't
 hinder a side that sends from waiting.",
+    )
+}
+
+/// The model lock between the drag and the thumbnail service, whose job begins by this event.
+fn thumbnails_with(
+    name: &'static str,
+    title: &'static str,
+    begins: Event,
+    verdict: Verdict,
+    why: &'static str,
+) -> Example {
+    Example {
+        name,
+        title,
+        about: "\
+Kernel, host and thumbnail service side by side. The kernel has the model lock, which is free or taken. The user starts to drag and lets go
+at any time, and at any time the service asks to make a thumbnail. A drag that waits shall get the lock before any thumbnail job.",
+        sides: vec![
+            Side {
+                title: "the model lock",
+                states: vec![
+                    state("free", &[], &[(Tick, "free"), (Read("lock"), "taken")]),
+                    state("taken", &["taken"], &[(Tick, "taken"), (Read("release"), "free")]),
+                ],
+            },
+            drag(),
+            Side {
+                title: "the thumbnail service",
+                states: vec![
+                    state("quiet", &[], &[(Tick, "quiet"), (Send("ask"), "asking")]),
+                    state("asking", &["asks"], &[(Tick, "asking"), (begins, "working")]),
+                    state("working", &["works"], &[(Send("done"), "quiet")]),
+                ],
+            },
+        ],
+        signals: vec!["lock", "release", "press", "go", "drop", "ask", "start", "done"],
+        propositions: vec!["taken", "waits", "drags", "asks", "works"],
+        rules: vec![
+            (
+                "The lock is taken while the host drags and while the service works, and these never come together.",
+                ag((p("drags") | p("works")).implies(p("taken")) & !(p("drags") & p("works"))),
+            ),
+            (
+                "A drag that waits while no thumbnail job runs gets the lock before any thumbnail job.",
+                ag((p("waits") & !p("works")).implies(until(!p("works"), p("drags")))),
+            ),
+            (
+                "A thumbnail job that is asked for runs in the end, or a drag has the lock.",
+                ag(p("asks").implies(af(p("works") | p("drags")))),
+            ),
+        ],
+        verdict,
+        why,
+    }
+}
+
+fn thumbnails() -> Example {
+    thumbnails_with(
+        "thumbnails",
+        "The model lock, a drag and the thumbnail service",
+        Read("start"),
+        Verdict::Converter,
+        "\
+The service waits to be told to start, and its job gives the lock back at the next tick. The converter tells it only while no drag waits;
+a drag that begins to wait during the job gets the lock after it.",
+    )
+}
+
+fn thumbnails_untold() -> Example {
+    thumbnails_with(
+        "thumbnails-none",
+        "The model lock, a drag and a thumbnail service that starts untold",
+        Send("start"),
+        Verdict::None,
+        "\
+Only one transition differs from [thumbnails](thumbnails.md): here the service starts its job by itself. At the first tick the user may press
+and the service may ask. At the next one the service may start: if the drag gets the lock at the same tick, both have it, which breaks the
+first rule, and if it doesn't, the job comes before the drag, which breaks the second. A converter can't hold back what a side sends.",
     )
 }
 
@@ -202,7 +287,7 @@ fn mutual_exclusion() -> Example {
         about: "\
 Two equal processes ask to enter a critical section, wait to be let in, and leave it at the tick after. Nothing in the tables keeps them
 from being inside together.",
-        sides: [process("a process", "wants1", "inside1"), process("a process", "wants2", "inside2")],
+        sides: vec![process("a process", "wants1", "inside1"), process("a process", "wants2", "inside2")],
         signals: vec!["ask", "enter", "leave"],
         propositions: vec!["wants1", "inside1", "wants2", "inside2"],
         rules: vec![
@@ -259,7 +344,7 @@ fn missionaries() -> Example {
 Two missionaries and two cannibals cross a river from left to right in a boat that holds two. At each tick the boat crosses, and the
 converter says how many of each kind it carries. In `right1+1` the boat is at the right bank, one is on the left bank, and the boat
 brought one. (Three and three would need 19 states a side, which is more than 16.)",
-        sides: [
+        sides: vec![
             crossing("two missionaries", ["m0", "m1"], ["mb0", "mb1", "mb2"]),
             crossing("two cannibals", ["c0", "c1"], ["cb0", "cb1", "cb2"]),
         ],
@@ -267,12 +352,9 @@ brought one. (Three and three would need 19 states a side, which is more than 16
         propositions: vec!["m0", "m1", "mb0", "mb1", "mb2", "c0", "c1", "cb0", "cb1", "cb2"],
         rules: vec![
             (
-                "On no bank are missionaries fewer than cannibals unless there are none: where the missionaries are parted, so are the cannibals.",
-                ag(p("m1").implies(p("c1"))),
-            ),
-            (
-                "The boat carries one or two.",
-                ag(p("mb0").implies(p("cb1") | p("cb2"))
+                "On no bank are missionaries fewer than cannibals unless there are none: where the missionaries are parted, so are the cannibals. The boat carries one or two.",
+                ag(p("m1").implies(p("c1"))
+                    & p("mb0").implies(p("cb1") | p("cb2"))
                     & p("mb1").implies(p("cb0") | p("cb1"))
                     & p("mb2").implies(p("cb0"))),
             ),
@@ -292,7 +374,7 @@ fn ack_nack() -> Example {
         about: "\
 The sender sends a packet and waits to hear whether it arrived; after `nack` it sends again. The receiver polls, and its poll must be
 answered at the next tick, with a packet or with `end`. Neither knows the other's way.",
-        sides: [
+        sides: vec![
             Side {
                 title: "ack-nack sender",
                 states: vec![
@@ -342,7 +424,7 @@ fn multi_write() -> Example {
         about: "\
 After a write the master goes on with the next one when it hears `more`, and rests after `stop`. The slave has to be opened and closed
 for each word it reads.",
-        sides: [
+        sides: vec![
             Side {
                 title: "multi-write master",
                 states: vec![
@@ -369,12 +451,9 @@ for each word it reads.",
         propositions: vec!["wrote", "read"],
         rules: vec![
             (
-                "The master writes before, or when, the slave reads.",
-                ag((!p("wrote")).implies(ax(p("wrote") | !p("read")))),
-            ),
-            (
-                "Each write is read before the master goes on.",
-                ag(p("wrote").implies(until(p("wrote"), p("wrote") & p("read")))),
+                "The master writes before, or when, the slave reads; and each write is read before the master goes on.",
+                ag((!p("wrote")).implies(ax(p("wrote") | !p("read")))
+                    & p("wrote").implies(until(p("wrote"), p("wrote") & p("read")))),
             ),
             (
                 "One read per write: after a read there is none before the master has gone on.",
@@ -405,7 +484,7 @@ fn arbiter_with(
         name,
         title,
         about,
-        sides: [Side { title: "arbiter", states: arbiter }, master],
+        sides: vec![Side { title: "arbiter", states: arbiter }, master],
         signals: vec!["request", "grant", "done", "data"],
         propositions: vec!["granted", "waits", "access"],
         rules: vec![
@@ -481,7 +560,7 @@ fn arbiter_masters() -> Example {
         about: "\
 The arbiter keeps the bus granted until it hears `done`. The two masters are one table, since only one of them moves at a time: both wait
 for the bus, and each uses it for two ticks.",
-        sides: [
+        sides: vec![
             Side {
                 title: "arbiter",
                 states: vec![

@@ -1,6 +1,8 @@
 //! Tables with named states, signals and propositions.
 
-use checker::bytes::{self, Design};
+use std::array::from_fn;
+
+use checker::bytes::{self, idle_side, Design};
 use checker::joined::proposition;
 
 use crate::rule::{Records, Rule};
@@ -61,10 +63,10 @@ pub struct Example {
     pub name: &'static str,
     /// The title of its page.
     pub title: &'static str,
-    /// What the pair is about.
+    /// What it is about.
     pub about: &'static str,
-    /// The kernel, then the host.
-    pub sides: [Side; 2],
+    /// The kernel, then the host, then the third side where there is one.
+    pub sides: Vec<Side>,
     /// The signals, numbered from 1.
     pub signals: Vec<&'static str>,
     /// The propositions, each held by states of one side alone: its place here is its bit in their
@@ -94,11 +96,15 @@ impl Example {
         let propositions = self.numbered_propositions();
         let mut records = Records::new(&propositions);
         let rules = self.rules.iter().map(|(_, rule)| records.put(rule) as u8).collect();
-        let sides = [0, 1].map(|side| self.side(side));
+        let sides = from_fn(|side| match self.sides.get(side) {
+            Some(states) => self.side(states),
+            None => idle_side(),
+        });
         Design { sides, formulas: records.formulas, rules }
     }
 
-    /// The propositions with their numbers: the kernel's count from 0, the host's from 16.
+    /// The propositions with their numbers: the kernel's count from 0, the host's from 16, the
+    /// third side's from 32.
     pub fn numbered_propositions(&self) -> Vec<(u8, &'static str)> {
         let bits = self.propositions.iter().enumerate();
         bits.map(|(bit, &name)| (proposition(self.holder(name), bit), name)).collect()
@@ -115,8 +121,8 @@ impl Example {
         }
     }
 
-    fn side(&self, side: usize) -> Vec<bytes::State> {
-        let states = &self.sides[side].states;
+    fn side(&self, side: &Side) -> Vec<bytes::State> {
+        let states = &side.states;
         let number = |name: &str| {
             let at = states.iter().position(|state| state.name == name);
             at.unwrap_or_else(|| panic!("no state {name}")) as u8

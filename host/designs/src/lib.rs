@@ -1,4 +1,4 @@
-//! The worked examples: each pair of tables and its rules as readable data,
+//! The worked examples: the tables of the sides and their rules as readable data,
 //! from which the design file and the page are written.
 //!
 //! - [`rule`]: rules as people write them, in the manner of NuSMV.

@@ -34,7 +34,7 @@ fn write_page(
     converted: Option<&[Record]>,
 ) -> Result<(), std::fmt::Error> {
     writeln!(out, "# {}\n\n{}\n", example.title, example.about)?;
-    for (side, word) in example.sides.iter().zip(["Kernel", "Host"]) {
+    for (side, word) in example.sides.iter().zip(["Kernel", "Host", "Third side"]) {
         write_side(out, side, word)?;
     }
     writeln!(out, "Signals: {}.  ", numbered((1..).zip(example.signals.iter().copied()), ""))?;
@@ -47,9 +47,8 @@ fn write_page(
     writeln!(out, "## Verdict\n")?;
     writeln!(
         out,
-        "{} and {} states, {} formulas, {} kept, {} of kind 8: {} positions. {}\n\n{}",
-        design.sides[0].len(),
-        design.sides[1].len(),
+        "{} states, {} formulas, {} kept, {} of kind 8: {} positions. {}\n\n{}",
+        state_counts(example),
         design.formulas.len(),
         design.kept().len(),
         design.untils().len(),
@@ -88,23 +87,35 @@ fn write_side(out: &mut String, side: &Side, word: &str) -> std::fmt::Result {
 
 fn write_converter(out: &mut String, example: &Example, records: &[Record]) -> std::fmt::Result {
     writeln!(out, "\n## Converter\n")?;
-    writeln!(
-        out,
-        "Each line is one transition: what the kernel does, what the host does, and the next record.\n"
-    )?;
-    writeln!(out, "| record | names | kernel | host | next |\n|---|---|---|---|---|")?;
+    let words = &["kernel", "host", "third side"][..example.sides.len()];
+    let does_each: Vec<String> = words.iter().map(|word| format!("what the {word} does")).collect();
+    writeln!(out, "Each line is one transition: {}, and the next record.\n", does_each.join(", "))?;
+    writeln!(out, "| record | names | {} | next |", words.join(" | "))?;
+    writeln!(out, "|---|---|{}---|", "---|".repeat(words.len()))?;
     for (number, record) in records.iter().enumerate() {
-        let name = |side: usize| &example.sides[side].states[usize::from(record.states[side])].name;
+        let named = example.sides.iter().zip(record.states);
+        let names: Vec<&str> =
+            named.map(|(side, state)| &side.states[usize::from(state)].name[..]).collect();
         for (place, link) in record.links.iter().enumerate() {
-            let [kernel, host] = link.side_events().map(|event| does(example.named_event(event)));
+            let events = &link.side_events()[..words.len()];
+            let done: Vec<String> =
+                events.iter().map(|&event| does(example.named_event(event))).collect();
             let (shown, names) = match place {
-                0 => (number.to_string(), format!("{}, {}", name(0), name(1))),
+                0 => (number.to_string(), names.join(", ")),
                 _ => Default::default(),
             };
-            writeln!(out, "| {shown} | {names} | {kernel} | {host} | {} |", link.next)?;
+            writeln!(out, "| {shown} | {names} | {} | {} |", done.join(" | "), link.next)?;
         }
     }
     Ok(())
+}
+
+/// How many states each side has, in words.
+fn state_counts(example: &Example) -> String {
+    let counts: Vec<String> =
+        example.sides.iter().map(|side| side.states.len().to_string()).collect();
+    let (last, before) = counts.split_last().expect("an example has sides");
+    format!("{} and {last}", before.join(", "))
 }
 
 /// What a side does, in words.
@@ -143,15 +154,13 @@ pub fn list(examples: &[Example]) -> String {
          | example | states | positions | verdict |\n|---|---|---|---|\n",
     );
     for example in examples {
-        let design = example.design();
         let verdict = match example.verdict {
             Verdict::Converter => "a converter",
             Verdict::None => "none",
         };
-        let [kernel, host] = [design.sides[0].len(), design.sides[1].len()];
-        let positions = grouped(positions(&design));
+        let (states, positions) = (state_counts(example), grouped(positions(&example.design())));
         let (name, title) = (example.name, example.title);
-        writeln!(out, "| [{title}]({name}.md) | {kernel} and {host} | {positions} | {verdict} |")
+        writeln!(out, "| [{title}]({name}.md) | {states} | {positions} | {verdict} |")
             .expect("a string takes all that is written");
     }
     out

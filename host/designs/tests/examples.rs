@@ -6,6 +6,7 @@ use std::fs;
 use std::path::PathBuf;
 
 use checker::bytes::{converter_bytes, positions, read_design};
+use checker::none::no_converter;
 use designs::collection::examples;
 use designs::example::{Example, Verdict};
 use designs::page;
@@ -32,7 +33,7 @@ fn converted(example: &Example) -> Option<Vec<checker::bytes::Record>> {
 fn designs_are_what_the_data_say() {
     for example in examples() {
         let bytes = file(&format!("{}.design", example.name));
-        assert_eq!(bytes.len(), 2_048);
+        assert_eq!(bytes.len(), 1_024 + 512 * example.sides.len(), "{}", example.name);
         assert_eq!(read_design(&bytes), Ok(example.design()), "{}", example.name);
         assert_eq!(bytes, example.design().to_bytes(), "{}", example.name);
     }
@@ -72,10 +73,12 @@ fn verdicts_are_as_stated() {
     for example in examples() {
         let design = example.design();
         // As many as the convert program has room for.
-        assert!(positions(&design) <= 1_792, "{}", example.name);
+        assert!(positions(&design) <= 1_152, "{}", example.name);
         let found = checker::search::find(&design);
         assert_eq!(found.is_some(), example.verdict == Verdict::Converter, "{}", example.name);
         assert_eq!(converted(&example).is_some(), found.is_some(), "{}", example.name);
+        // The tableau plays no game.
+        assert_eq!(no_converter(&design), found.is_none(), "{}", example.name);
     }
 }
 
@@ -95,17 +98,20 @@ fn positions_by_hand() {
     let expected = [
         ("handshake", 1_024),
         ("handshake-printed", 1_024),
-        // 3 × 3 states, 6 kept, 3 untils.
-        ("lock", 9 * 64 * 3),
-        ("lock-none", 9 * 64 * 3),
+        // 3 × 3 states, 5 kept, 3 untils.
+        ("lock", 9 * 32 * 3),
+        ("lock-none", 9 * 32 * 3),
+        // 2 × 3 × 3 states, 5 kept, 2 untils.
+        ("thumbnails", 18 * 32 * 2),
+        ("thumbnails-none", 18 * 32 * 2),
         // 3 × 3 states, 5 kept, 2 untils.
         ("mutex", 9 * 32 * 2),
-        // 13 × 13 states, 3 kept, 1 until.
-        ("missionaries", 169 * 8),
+        // 13 × 13 states, 2 kept, 1 until.
+        ("missionaries", 169 * 4),
         // 3 × 3 states, 6 kept, 1 until.
         ("ack-nack", 9 * 64),
-        // 3 × 4 states, 6 kept, 2 untils.
-        ("multi-write", 12 * 64 * 2),
+        // 3 × 4 states, 5 kept, 2 untils.
+        ("multi-write", 12 * 32 * 2),
         // 3 × 4 states, 5 kept, 1 until.
         ("arbiter-producer", 12 * 32),
         ("arbiter-consumer", 12 * 32),
@@ -122,14 +128,17 @@ fn propositions_by_hand() {
     let handshake = &examples()[0];
     let expected = [(0, "idle1"), (1, "rout"), (18, "idle2"), (19, "rin")];
     assert_eq!(handshake.numbered_propositions(), expected);
-    let arbiter = &examples()[8];
+    let thumbnails = &examples()[4];
+    let expected = [(0, "taken"), (17, "waits"), (18, "drags"), (35, "asks"), (36, "works")];
+    assert_eq!(thumbnails.numbered_propositions(), expected);
+    let arbiter = &examples()[10];
     let expected = [(0, "granted"), (17, "waits"), (18, "access")];
     assert_eq!(arbiter.numbered_propositions(), expected);
 }
 
 #[test]
 #[should_panic(expected = "states of several sides hold rout")]
-fn a_proposition_of_both_sides() {
+fn a_proposition_of_two_sides() {
     let mut handshake = examples().remove(0);
     handshake.sides[1].states[0].holds.push("rout");
     handshake.design();
@@ -148,6 +157,6 @@ fn one_rule_as_typed() {
     let typed: Vec<String> = examples()[0].rules.iter().map(|(_, rule)| rule.to_string()).collect();
     assert_eq!(typed[0], "AG (idle1 & idle2 -> AX (rout | !rin))");
     assert_eq!(typed[3], "AG (idle1 & rin -> AX (!rout | idle2))");
-    let lock = &examples()[2];
-    assert_eq!(lock.rules[1].1.to_string(), "AG (waits & !thumb -> A [ !thumb U drags ])");
+    let thumbnails = &examples()[4];
+    assert_eq!(thumbnails.rules[1].1.to_string(), "AG (waits & !works -> A [ !works U drags ])");
 }

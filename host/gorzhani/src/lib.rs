@@ -6,27 +6,33 @@ mod refused;
 
 pub use refused::Refused;
 
-/// The bytes of a design.
-pub const DESIGN: usize = 2048;
+/// The bytes of a design that has no block for the third side, which is then one ticking state without labels.
+pub const FOUR_BLOCKS: usize = 2048;
+/// The bytes of a design that has a block for each of the three sides.
+pub const FIVE_BLOCKS: usize = 2560;
 /// The bytes of a converter record.
-pub const RECORD: usize = 36;
+pub const RECORD: usize = 52;
 /// The bytes of a block of a converter file.
 pub const BLOCK: usize = 512;
+/// The records in every block of a converter file but perhaps the last.
+pub const BLOCK_RECORDS: usize = 9;
 /// The bytes of work for each position of a search and each record that is judged.
 pub const CELL: usize = 16;
 /// The most positions of a design that is searched, and the most records of a converter.
 pub const MOST: usize = 65_536;
 
-/// The record that a runner stands at, and the events last delivered to the two sides.
+/// The record that a runner stands at, and the events last delivered to the sides.
 #[repr(C)]
 #[derive(Clone, Copy, Debug, Default, PartialEq, Eq)]
 pub struct Runner {
     /// The number of the record.
     pub record: u16,
-    /// The event last delivered to side 1.
+    /// The event last delivered to the kernel.
     pub first: i8,
-    /// The event last delivered to side 2.
+    /// The event last delivered to the host.
     pub second: i8,
+    /// The event last delivered to the third side.
+    pub third: i8,
 }
 
 extern "C" {
@@ -65,6 +71,7 @@ extern "C" {
         runner: *mut Runner,
         first: i8,
         second: i8,
+        third: i8,
     ) -> i32;
 }
 
@@ -113,7 +120,7 @@ pub fn judge(design: &[u8], converter: &[u8], work: &mut [u8]) -> Result<(), Ref
     .map(|_| ())
 }
 
-/// Writes a converter as blocks: lend [`BLOCK`] bytes for each 14 records or part of them. The count of blocks.
+/// Writes a converter as blocks: lend [`BLOCK`] bytes for each [`BLOCK_RECORDS`] records or part of them. The count of blocks.
 pub fn write(converter: &[u8], blocks: &mut [u8]) -> Result<usize, Refused> {
     // SAFETY: as above.
     answer(unsafe {
@@ -130,10 +137,11 @@ pub fn read(blocks: &[u8], converter: &mut [u8]) -> Result<usize, Refused> {
 }
 
 /// One tick of a converter: each side shows the event that it sends, or 0. Afterwards the runner holds the next record and the events to deliver.
-pub fn tick(converter: &[u8], runner: &mut Runner, shown: [i8; 2]) -> Result<(), Refused> {
+pub fn tick(converter: &[u8], runner: &mut Runner, shown: [i8; 3]) -> Result<(), Refused> {
+    let [first, second, third] = shown;
     // SAFETY: as above; `Runner` has the layout and the alignment of the header's struct.
     answer(unsafe {
-        gorzhani_tick(converter.as_ptr(), converter.len(), runner, shown[0], shown[1])
+        gorzhani_tick(converter.as_ptr(), converter.len(), runner, first, second, third)
     })
     .map(|_| ())
 }

@@ -28,8 +28,8 @@ macro_rules! refusals {
 }
 
 refusals! {
-    LENGTH = 1, "a design isn't 2,048 bytes, or a converter file is empty, no multiple of 512 \
-        bytes or over 4,682 blocks";
+    LENGTH = 1, "a design isn't 2,048 or 2,560 bytes, or a converter file is empty, no multiple of \
+        512 bytes or over 7,282 blocks";
     CHECK = 2, "a block's check is wrong";
     HEADER = 3, "a block's kind or first record is wrong";
     COUNT = 4, "a block's record count is outside its limits, or a converter file has over 65,536 \
@@ -37,15 +37,15 @@ refusals! {
     TRANSITIONS = 5, "a state has no transition or over 8, an event outside -63 to 63 or twice, or \
         a target that isn't a state";
     STATE_KIND = 6, "a state is neither input, output-only nor delayed";
-    FORMULA = 7, "a formula has an unknown kind, an operand not lower or a proposition over 31, or \
+    FORMULA = 7, "a formula has an unknown kind, an operand not lower or a proposition over 47, or \
         a rule names no formula";
     UNUSED_BYTE = 8, "an unused byte outside converter records isn't zero";
     POSITIONS = 9, "a design has over 65,536 positions";
-    CONVERTER_LENGTH = 10, "a converter in memory is empty, no multiple of 36 bytes or over 65,536 \
+    CONVERTER_LENGTH = 10, "a converter in memory is empty, no multiple of 52 bytes or over 65,536 \
         records";
     RECORD = 11, "a converter record has a side state over 15, a count outside 1 to 8, an event \
-        outside -63 to 63, an event pair twice, a next record that isn't there, or an unused byte \
-        that isn't zero";
+        outside -63 to 63, an event triple twice, a next record that isn't there, or an unused \
+        byte that isn't zero";
     SHORT_RESULT = 12, "the lent result is too short";
     SHORT_WORK = 13, "the lent work is too short";
     UNMATCHED = 14, "the converter isn't matched to the sides";

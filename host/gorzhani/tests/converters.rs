@@ -5,15 +5,21 @@ mod common;
 #[path = "../../checker/tests/samples/mod.rs"]
 mod samples;
 
-use checker::bytes::{converter_bytes, positions, seal, write_blocks};
+use std::array::from_fn;
+
+use checker::bytes::{converter_bytes, positions, seal, write_blocks, SIDES};
 use checker::generate::{
-    any_converter, any_design, block_file, damage, damaged_converter, design, loose_converter,
-    matched_converter, nearly_matched_converter, ruled_design, script, Random, Shape,
+    any_bytes, any_converter, any_design, block_file, damage, damaged_converter, design,
+    loose_converter, matched_converter, nearly_matched_converter, ruled_design, script, Random,
+    Shape,
 };
 use checker::tick::watch;
-use common::{about, found, judge_agrees, read_agrees, tick_agrees, write_agrees, Answers};
-use gorzhani::{Refused, Runner, BLOCK, CELL, RECORD};
-use samples::{figure_five, ruled_handshake};
+use common::{
+    about, checkers_runner, found, judge_agrees, librarys_runner, read_agrees, tick_agrees,
+    write_agrees, Answers,
+};
+use gorzhani::{Refused, Runner, BLOCK, BLOCK_RECORDS, CELL, RECORD};
+use samples::{figure_five, ruled_handshake, ORDERS};
 
 #[test]
 fn judgements() {
@@ -31,7 +37,7 @@ fn judgements() {
             1 => converter_bytes(&nearly_matched_converter(&mut random, &made, spare)),
             _ => any_converter(&mut random, &made),
         };
-        let mut bytes = made.to_bytes();
+        let mut bytes = any_bytes(&mut random, &made);
         if round % 8 == 0 {
             damage(&mut random, &mut bytes);
         }
@@ -53,8 +59,9 @@ fn every_byte_of_a_converter() {
             damaged[at] = damaged[at].wrapping_add(change);
             judged.count(judge_agrees(&bytes, &damaged, CELL * 3));
             written.count(write_agrees(&damaged, BLOCK));
-            let mut runner = Runner { record: (at / RECORD) as u16, first: 7, second: -7 };
-            ticked.count(tick_agrees(&damaged, &mut runner, [0, 0]));
+            let mut runner =
+                Runner { record: (at / RECORD) as u16, first: 7, second: -7, third: 1 };
+            ticked.count(tick_agrees(&damaged, &mut runner, [0; SIDES]));
         }
     }
     judged.are(&[11, 14], 100);
@@ -83,7 +90,7 @@ fn every_length_of_a_converter() {
             assert_eq!(answer, expected, "{length} {lent}");
         }
         write_agrees(converter, BLOCK);
-        tick_agrees(converter, &mut Runner::default(), [0, 0]);
+        tick_agrees(converter, &mut Runner::default(), [0; SIDES]);
     }
 }
 
@@ -97,7 +104,7 @@ fn files() {
         if round % 3 > 0 {
             damage(&mut random, &mut file);
         }
-        let enough = RECORD * 14 * file.len().div_ceil(BLOCK);
+        let enough = RECORD * BLOCK_RECORDS * file.len().div_ceil(BLOCK);
         let length = about(&mut random, enough);
         answers.count(read_agrees(&file, length));
     }
@@ -107,7 +114,7 @@ fn files() {
 #[test]
 fn every_byte_of_a_file() {
     let mut random = Random::new(203);
-    let converter = converter_bytes(&loose_converter(&mut random, 16));
+    let converter = converter_bytes(&loose_converter(&mut random, BLOCK_RECORDS + 2));
     let mut sound = vec![0; 2 * BLOCK];
     assert_eq!(write_blocks(&converter, &mut sound), Ok(2));
     let mut answers = Answers::default();
@@ -119,14 +126,14 @@ fn every_byte_of_a_file() {
                 if repaired {
                     seal(&mut file);
                 }
-                answers.count(read_agrees(&file, RECORD * 28));
+                answers.count(read_agrees(&file, RECORD * 2 * BLOCK_RECORDS));
             }
         }
     }
     answers.are(&[0, 2, 3, 4, 8, 11], 5);
     for length in 0..=sound.len() {
         let whole = length > 0 && length % BLOCK == 0;
-        assert_eq!(read_agrees(&sound[..length], RECORD * 28) == 1, !whole);
+        assert_eq!(read_agrees(&sound[..length], RECORD * 2 * BLOCK_RECORDS) == 1, !whole);
     }
 }
 
@@ -141,7 +148,7 @@ fn written_and_read_back() {
             0 => damaged_converter(&mut random, &made),
             _ => converter_bytes(&made),
         };
-        let count = records.div_ceil(14);
+        let count = records.div_ceil(BLOCK_RECORDS);
         let length = about(&mut random, BLOCK * count);
         answers.count(write_agrees(&converter, length));
         if round % 3 > 0 {
@@ -162,8 +169,8 @@ fn ticks_of_any_converter() {
     for _ in 0..3_000 {
         let made = any_design(&mut random);
         let converter = any_converter(&mut random, &made);
-        let mut runner =
-            Runner { record: 0, first: random.byte() as i8, second: random.byte() as i8 };
+        let delivered = from_fn(|_| random.byte() as i8);
+        let mut runner = librarys_runner(checker::tick::Runner { record: 0, delivered });
         for shown in script(&mut random, &made, &converter, 20) {
             if random.once_in(30) {
                 runner.record = random.below(2 + converter.len() / RECORD) as u16;
@@ -180,10 +187,11 @@ fn ticks_at_every_shown_event() {
     let mut answers = Answers::default();
     for record in 0..4 {
         for first in i8::MIN..=i8::MAX {
-            // Every event on either side beside each that F delivers there or near it.
+            // Every event on each side beside each that F delivers there or near it.
             for second in [0, 1, -1, -2, -63, -64, first] {
-                for shown in [[first, second], [second, first]] {
-                    let mut runner = Runner { record, first: -128, second: 127 };
+                for order in ORDERS {
+                    let shown = order.map(|from| [first, second, 0][from]);
+                    let mut runner = Runner { record, first: -128, second: 127, third: 5 };
                     answers.count(tick_agrees(&converter, &mut runner, shown));
                 }
             }
@@ -207,16 +215,11 @@ fn runs_of_converters_found() {
         let Some(converter) = found(&made.to_bytes()) else { continue };
         runs += 1;
         let script = script(&mut random, &made, &converter, 60);
-        let delivered = [random.byte() as i8, random.byte() as i8];
+        let delivered = from_fn(|_| random.byte() as i8);
         let ran = watch(&made, &converter, delivered, &script, |converter, runner, shown| {
-            let mut lent = Runner {
-                record: u16::try_from(runner.record).expect("a record number has 16 bits"),
-                first: runner.delivered[0],
-                second: runner.delivered[1],
-            };
+            let mut lent = librarys_runner(*runner);
             let answer = gorzhani::tick(converter, &mut lent, shown);
-            runner.record = usize::from(lent.record);
-            runner.delivered = [lent.first, lent.second];
+            *runner = checkers_runner(lent);
             answer.map_err(|Refused(number)| number)
         });
         calls += script.len();

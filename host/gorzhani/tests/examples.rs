@@ -6,10 +6,10 @@
 use std::fs;
 use std::path::Path;
 
-use gorzhani::{Refused, BLOCK, CELL, RECORD};
+use gorzhani::{Refused, BLOCK, BLOCK_RECORDS, CELL, RECORD};
 
-/// What the convert program lends: room for 1,792 positions.
-const POSITIONS: usize = 1_792;
+/// What the convert program lends: room for 1,152 positions.
+const POSITIONS: usize = 1_152;
 
 #[test]
 fn examples() {
@@ -30,7 +30,7 @@ fn examples() {
         }
         let records = answer.unwrap_or_else(|refused| panic!("{path:?}: {refused:?}"));
         let shown = &table[..RECORD * records];
-        let mut blocks = vec![0; BLOCK * records.div_ceil(14)];
+        let mut blocks = vec![0; BLOCK * records.div_ceil(BLOCK_RECORDS)];
         assert_eq!(gorzhani::write(shown, &mut blocks), Ok(blocks.len() / BLOCK));
         let beside = fs::read(path.with_extension("converter")).expect("a file stands beside it");
         assert!(blocks == beside, "{path:?} is shown with another converter");

@@ -4,6 +4,8 @@
 #[path = "../../checker/tests/samples/mod.rs"]
 mod samples;
 
+use std::collections::BTreeSet;
+
 use checker::brute::{try_all, Outcome};
 use checker::bytes::{positions, read_converter_memory, Design, Formula, Record};
 use checker::generate::{ruled_design, Random, Shape};
@@ -55,16 +57,14 @@ fn records_are_reached_breadth_first() {
 }
 
 #[test]
-fn without_rules_each_pair_has_one_record() {
+fn without_rules_each_joint_state_has_one_record() {
     let mut random = Random::new(502);
     for _ in 0..500 {
         let mut made = ruled_design(&mut random, &Shape::SMALL);
         (made.formulas, made.rules) = (vec![], vec![]);
         let converter = found(&made).expect("with no rules a converter exists");
-        let mut pairs: Vec<_> = converter.iter().map(|record| record.states).collect();
-        pairs.sort_unstable();
-        pairs.dedup();
-        assert_eq!(pairs.len(), converter.len());
+        let named: BTreeSet<_> = converter.iter().map(|record| record.states).collect();
+        assert_eq!(named.len(), converter.len());
     }
 }
 
@@ -73,19 +73,20 @@ fn the_rows_get_the_fewest_records() {
     // As many as the paper's converter has.
     let count = |made: &Design| found(made).expect("a converter exists").len();
     assert_eq!(count(&ruled_handshake(false)), figure_five().len());
-    // One for each pair that is reached: two in turn; h0, and one of h1 and h2.
+    // One for each joint state that is reached: two in turn; h0, and one of h1 and h2.
     assert_eq!(count(&ticking_in_turn()), 2);
     let mut formulas = next_sixteen_next_seventeen();
     formulas.push(Formula::Or(2, 3));
     assert_eq!(count(&two_inputs(formulas, vec![4])), 2);
 }
 
-#[test]
-fn close_to_the_smallest() {
+/// Tiny designs of so many sides: how many records are found in all, how many would be
+/// enough, and how many of the converters are as small as can be.
+fn beside_the_smallest(sides: usize, designs: usize) -> [usize; 3] {
     let mut random = Random::new(503);
     let (mut tried, mut ours, mut smallest, mut equal) = (0, 0, 0, 0);
-    while tried < 1_000 {
-        let made = ruled_design(&mut random, &Shape::TINY);
+    while tried < designs {
+        let made = ruled_design(&mut random, &Shape { sides, ..Shape::TINY });
         // The smallest are tried first.
         let Outcome::Found(least) = try_all(&made, 2_000) else {
             continue;
@@ -98,8 +99,17 @@ fn close_to_the_smallest() {
         equal += usize::from(count == least.len());
     }
     assert!(smallest > tried, "the designs are too small to tell");
-    assert!(20 * equal > 19 * tried, "{equal} of {tried} are as small as can be");
-    assert!(100 * ours < 103 * smallest, "{ours} records where {smallest} are enough");
+    [ours, smallest, equal]
+}
+
+#[test]
+fn close_to_the_smallest() {
+    // A little below what was found: 973 of two sides and 943 of three.
+    for (sides, most, least) in [(2, 103, 960), (3, 104, 930)] {
+        let [ours, smallest, equal] = beside_the_smallest(sides, 1_000);
+        assert!(equal > least, "{equal} of 1,000 are as small as can be");
+        assert!(100 * ours < most * smallest, "{ours} records where {smallest} are enough");
+    }
 }
 
 /// The converter with record `gone` left out and `kept` in its place, with the

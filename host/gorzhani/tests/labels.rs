@@ -1,5 +1,5 @@
 //! Whose label a proposition is, by the library and by the second checker: over designs
-//! whose sides set the same bits and whose rules name labels of both, sound and damaged.
+//! of which two sides set the same bits and have labels that the rules name, sound and damaged.
 
 mod common;
 #[path = "../../checker/tests/meanings/mod.rs"]
@@ -7,51 +7,57 @@ mod meanings;
 #[path = "../../checker/tests/samples/mod.rs"]
 mod samples;
 
-use checker::bytes::{converter_bytes, positions, seal, Design, Formula, State};
+use std::array::from_fn;
+
+use checker::bytes::{converter_bytes, positions, seal, Design, Formula, SIDES};
 use checker::generate::{
-    matched_converter, named_propositions, nearly_matched_converter, progress_design, ruled_design,
-    Random, Shape,
+    any_bytes, matched_converter, named_propositions, nearly_matched_converter, progress_design,
+    ruled_design, Random, Shape,
 };
 use checker::judge::failing_rules;
 use checker::search::find;
-use common::{judge_agrees, search_agrees, size, Answers};
-use gorzhani::{Refused, CELL, RECORD};
+use common::{judge_agrees, record_bytes, search_agrees, size, Answers};
+use gorzhani::{Refused, BLOCK, CELL, RECORD};
 use meanings::of_some_side;
-use samples::{record, ticking};
+use samples::{one_record, ticking};
 
 /// The most positions of a sound design here.
 const MOST: u128 = 1 << 10;
 
-/// A design in which a label of one side can be taken for the other's: some bit is
-/// set on both sides, and the rules name labels of both.
+/// A design in which a label of one side can be taken for another's: some bit is set on
+/// two sides, and the rules name labels of both.
 fn mixed_labels(random: &mut Random, round: usize) -> Design {
     // All sixteen labels of a side, or few and so the same ones more often.
     let shape = [Shape::TINY, Shape::SMALL, Shape { propositions: 16, ..Shape::SMALL }][round % 3];
     let make = if round.is_multiple_of(2) { ruled_design } else { progress_design };
     loop {
         let made = make(random, &shape);
-        let set = |side: &Vec<State>| side.iter().fold(0, |bits, state| bits | state.label);
-        let same_bits = set(&made.sides[0]) & set(&made.sides[1]) != 0;
-        if same_bits && sides_named(&made) == [true, true] && positions(&made) <= MOST {
+        let set =
+            made.sides.each_ref().map(|side| side.iter().fold(0, |bits, state| bits | state.label));
+        let named = sides_named(&made);
+        let mistaken = |[a, b]: [usize; 2]| set[a] & set[b] != 0 && named[a] && named[b];
+        if [[0, 1], [0, 2], [1, 2]].into_iter().any(mistaken) && positions(&made) <= MOST {
             return made;
         }
     }
 }
 
 /// Of which sides the rules of a design name labels.
-fn sides_named(design: &Design) -> [bool; 2] {
-    let mut named: Vec<[bool; 2]> = Vec::new();
+fn sides_named(design: &Design) -> [bool; SIDES] {
+    let mut named: Vec<[bool; SIDES]> = Vec::new();
     for formula in &design.formulas {
         named.push(match *formula {
-            Formula::True | Formula::False => [false, false],
-            Formula::Proposition(p) | Formula::NotProposition(p) => [p < 16, p >= 16],
+            Formula::True | Formula::False => [false; SIDES],
+            Formula::Proposition(p) | Formula::NotProposition(p) => {
+                from_fn(|side| usize::from(p) / 16 == side)
+            }
             Formula::Next(a) | Formula::Always(a) => named[a],
             Formula::And(a, b) | Formula::Or(a, b) | Formula::Until(a, b) => {
-                [0, 1].map(|side| named[a][side] || named[b][side])
+                from_fn(|side| named[a][side] || named[b][side])
             }
         });
     }
-    [0, 1].map(|side| design.rules.iter().any(|&rule| named[usize::from(rule)][side]))
+    from_fn(|side| design.rules.iter().any(|&rule| named[usize::from(rule)][side]))
 }
 
 /// Searches by both with just as much as is asked for.
@@ -69,7 +75,7 @@ fn searches() {
     let mut others = 0;
     for round in 0..20_000 {
         let made = mixed_labels(&mut random, round);
-        let answer = searched(&made.to_bytes());
+        let answer = searched(&any_bytes(&mut random, &made));
         answers.count(answer);
         others += usize::from((answer == 16) != find(&of_some_side(&made)).is_none());
     }
@@ -89,7 +95,8 @@ fn judgements() {
         let make = if round % 4 == 3 { nearly_matched_converter } else { matched_converter };
         let converter = make(&mut random, &made, spare);
         let bytes = converter_bytes(&converter);
-        let answer = judge_agrees(&made.to_bytes(), &bytes, CELL * converter.len());
+        let design = any_bytes(&mut random, &made);
+        let answer = judge_agrees(&design, &bytes, CELL * converter.len());
         answers.count(answer);
         if answer != 14 {
             let kept = failing_rules(&of_some_side(&made), &converter).is_empty();
@@ -109,7 +116,7 @@ fn searched_and_judged(bytes: &[u8], converter: &[u8]) -> [u8; 2] {
 fn design_and_converter(random: &mut Random, round: usize) -> (Vec<u8>, Vec<u8>) {
     let made = mixed_labels(random, round);
     let converter = matched_converter(random, &made, 2);
-    (made.to_bytes(), converter_bytes(&converter))
+    (any_bytes(random, &made), converter_bytes(&converter))
 }
 
 /// A byte of a header or of a record gets another value, at times with the checks as
@@ -120,9 +127,8 @@ fn damaged_at_one_byte() {
     let (mut searched, mut judged) = (Answers::default(), Answers::default());
     for round in 0..10_000 {
         let (mut bytes, converter) = design_and_converter(&mut random, round);
-        let block = random.below(4);
-        let records = [20, 20, 4, 1][block] * usize::from(bytes[512 * block + 1]);
-        let at = 512 * block + random.below(4 + records);
+        let block = random.below(bytes.len() / BLOCK);
+        let at = BLOCK * block + random.below(4 + record_bytes(&bytes, block));
         bytes[at] = bytes[at].wrapping_add(random.from_to(1, 255) as u8);
         if round % 16 > 0 {
             seal(&mut bytes);
@@ -137,22 +143,22 @@ fn damaged_at_one_byte() {
 
 /// A formula names a label of a side that there isn't.
 #[test]
-fn propositions_over_31() {
+fn propositions_over_47() {
     let mut random = Random::new(1_004);
     for round in 0..10_000 {
         let (mut bytes, converter) = design_and_converter(&mut random, round);
         let at = *random.pick(&named_propositions(&bytes));
-        bytes[at] = random.from_to(32, 255) as u8;
+        bytes[at] = random.from_to(48, 255) as u8;
         seal(&mut bytes);
         assert_eq!(searched_and_judged(&bytes, &converter), [7, 7], "{bytes:?}");
         assert_eq!(gorzhani::positions(&bytes), Err(Refused::FORMULA), "{bytes:?}");
     }
 }
 
-/// A formula names the same label of the other side: that is as sound, and means
+/// A formula names the same label of another side: that is as sound, and means
 /// something else.
 #[test]
-fn propositions_of_the_other_side() {
+fn propositions_of_another_side() {
     let mut random = Random::new(1_005);
     let mut answers = Answers::default();
     let mut others = [0, 0];
@@ -160,7 +166,7 @@ fn propositions_of_the_other_side() {
         let (mut bytes, converter) = design_and_converter(&mut random, round);
         let before = searched_and_judged(&bytes, &converter);
         let at = *random.pick(&named_propositions(&bytes));
-        bytes[at] ^= 16;
+        bytes[at] = (bytes[at] + 16 * random.from_to(1, 2) as u8) % 48;
         seal(&mut bytes);
         let after = searched_and_judged(&bytes, &converter);
         answers.count(after[0]);
@@ -176,19 +182,22 @@ fn propositions_of_the_other_side() {
 /// each side has one state.
 #[test]
 fn every_value_of_a_proposition() {
-    let converter = converter_bytes(&[record([0, 0], &[([0, 0], 0)])]);
-    for labels in [[0xFFFF, 0], [0, 0xFFFF], [0x69C5, 0xA71B]] {
+    let converter = converter_bytes(&one_record(&[[0; SIDES]]));
+    let one_side = [[0xFFFF, 0, 0], [0, 0xFFFF, 0], [0, 0, 0xFFFF]];
+    for labels in one_side.into_iter().chain([[0x69C5, 0xA71B, 0], [0x69C5, 0xA71B, 0x3C96]]) {
         let sides = ticking(labels);
         let sound = Design { sides, formulas: vec![Formula::True], rules: vec![0] }.to_bytes();
-        // The kernel's bits are 0 to 15, the host's 16 to 31.
-        let bits = u32::from(labels[0]) | u32::from(labels[1]) << 16;
+        // The formulas' block is the last but one.
+        let formula = sound.len() - 2 * BLOCK + 4;
+        // The kernel's bits are 0 to 15, the host's 16 to 31, the third side's 32 to 47.
+        let bits = labels.iter().rev().fold(0_u64, |bits, &label| bits << 16 | u64::from(label));
         for kind in [3, 4] {
             for value in 0..=255 {
                 let mut bytes = sound.clone();
-                bytes[1_028..1_030].copy_from_slice(&[kind, value]);
+                bytes[formula..formula + 2].copy_from_slice(&[kind, value]);
                 seal(&mut bytes);
                 let expected = match value {
-                    32.. => [7, 7],
+                    48.. => [7, 7],
                     p if (bits >> p & 1 == 1) == (kind == 3) => [0, 0],
                     _ => [16, 15],
                 };

@@ -3,9 +3,11 @@
 
 mod common;
 
+use std::array::from_fn;
+
 use checker::bytes::{
     converter_bytes, positions, read_converter_memory, Design, Formula, Link, Record, State,
-    Transition,
+    Transition, SIDES,
 };
 use checker::generate::{ruled_design, Random, Shape};
 use common::{found, judge_agrees, Answers};
@@ -18,18 +20,24 @@ fn side(each: u8) -> Vec<State> {
     vec![state(0), state(1)]
 }
 
+/// Sides whose states are all input; each state of the kernel has four events.
+fn sides() -> [Vec<State>; SIDES] {
+    [side(4), side(1), side(1)]
+}
+
 /// The converter that goes from each place to those that `next` lists, at most
-/// four, and in whose places the propositions 0 and 16 hold as `holding` says;
-/// it is matched to sides of two states. The places are records in any order,
+/// four, and in whose places the propositions 0, 16 and 32 hold as `holding` says;
+/// it is matched to the sides below. The places are records in any order,
 /// but that the first is record 0.
-fn converter(random: &mut Random, next: &[Vec<usize>], holding: &[[u8; 2]]) -> Vec<Record> {
+fn converter(random: &mut Random, next: &[Vec<usize>], holding: &[[u8; SIDES]]) -> Vec<Record> {
     let mut number: Vec<usize> = (0..next.len()).collect();
     random.shuffle(&mut number[1..]);
-    let mut records = vec![Record { states: [0, 0], links: vec![] }; next.len()];
+    let mut records = vec![Record { states: [0; SIDES], links: vec![] }; next.len()];
     for (place, targets) in next.iter().enumerate() {
-        let link = |(at, &to): (usize, &usize)| Link {
-            events: [-(4 * holding[to][0] as i8 + at as i8), -(holding[to][1] as i8)],
-            next: number[to] as u16,
+        let link = |(at, &to): (usize, &usize)| {
+            let [kernel, host, third] = holding[to].map(|holds| holds as i8);
+            let events = [4 * kernel + at as i8, host, third].map(|event| -event);
+            Link { events, next: number[to] as u16 }
         };
         let links = targets.iter().enumerate().map(link).collect();
         records[number[place]] = Record { states: holding[place], links };
@@ -59,25 +67,27 @@ fn graph(random: &mut Random, places: usize) -> Vec<Vec<usize>> {
     (0..places).map(next).collect()
 }
 
-/// The propositions 0 and 16 in so many places, mostly in few.
-fn holding(random: &mut Random, places: usize) -> Vec<[u8; 2]> {
-    let rare = [random.from_to(2, 2 * places), random.from_to(2, 2 * places)];
-    let most = random.once_in(3);
-    let mut held: Vec<[u8; 2]> = (0..places)
-        .map(|_| [random.once_in(rare[0]), random.once_in(rare[1]) != most].map(u8::from))
+/// The propositions 0, 16 and 32 in so many places, mostly in few.
+fn holding(random: &mut Random, places: usize) -> Vec<[u8; SIDES]> {
+    let rare: [usize; SIDES] = from_fn(|_| random.from_to(2, 2 * places));
+    let most = [false, random.once_in(3), random.once_in(3)];
+    let mut held: Vec<[u8; SIDES]> = (0..places)
+        .map(|_| from_fn(|side| u8::from(random.once_in(rare[side]) != most[side])))
         .collect();
-    held[0] = [0, 0];
+    held[0] = [0; SIDES];
     held
 }
 
-/// Formulas over propositions 0 and 16 of which most are untils and always.
+/// Formulas over propositions 0, 16 and 32 of which most are untils and always.
 fn waiting(random: &mut Random) -> Vec<Formula> {
     let mut formulas = vec![
         Formula::True,
         Formula::Proposition(0),
         Formula::Proposition(16),
+        Formula::Proposition(32),
         Formula::NotProposition(0),
         Formula::NotProposition(16),
+        Formula::NotProposition(32),
     ];
     for at in formulas.len()..24 {
         let (a, b) = (random.below(at), random.below(at));
@@ -114,10 +124,9 @@ fn graphs_in_no_order() {
     for round in 0..1_500 {
         let places = random.from_to(2, if round % 10 == 0 { 1_000 } else { 100 });
         let (next, held) = (graph(&mut random, places), holding(&mut random, places));
-        let sides = [side(4), side(1)];
-        let design = Design { sides, formulas: waiting(&mut random), rules: vec![] };
+        let design = Design { sides: sides(), formulas: waiting(&mut random), rules: vec![] };
         let made = converter(&mut random, &next, &held);
-        each_rule(&design, &made, (5..24).step_by(3), &mut answers);
+        each_rule(&design, &made, (7..24).step_by(3), &mut answers);
     }
     answers.are(&[0, 15], 3_000);
 }
@@ -138,11 +147,11 @@ fn long_chains_in_no_order() {
         Formula::Until(3, 5),
         Formula::Always(0),
     ];
-    let design = Design { sides: [side(4), side(1)], formulas, rules: vec![] };
+    let design = Design { sides: sides(), formulas, rules: vec![] };
     for places in [2, 3, 4, 5, 100, 1_000, 20_000] {
         let next: Vec<Vec<usize>> = (0..places).map(|at| vec![(at + 1).min(places - 1)]).collect();
-        let mut held = vec![[0, 0]; places];
-        held[places - 1] = [1, 0];
+        let mut held = vec![[0; SIDES]; places];
+        held[places - 1][0] = 1;
         let bytes = converter_bytes(&converter(&mut random, &next, &held));
         for (rule, answer) in [(3, 0), (4, 0), (5, 15), (6, 0), (7, 15), (8, 0)] {
             let alone = Design { rules: vec![rule], ..design.clone() };

@@ -5,13 +5,13 @@ mod common;
 #[path = "../../checker/tests/samples/mod.rs"]
 mod samples;
 
-use checker::bytes::{seal, Design, Formula};
-use checker::generate::{any_design, damage, ruled_design, Random, Shape};
-use common::{mixed_design, positions_agrees, Answers};
-use gorzhani::{Refused, CELL, DESIGN, RECORD};
+use checker::bytes::{idle_side, seal, Formula};
+use checker::generate::{any_bytes, any_design, damage, ruled_design, Random, Shape};
+use common::{mixed_design, positions_agrees, record_bytes, Answers};
+use gorzhani::{Refused, BLOCK, CELL, FIVE_BLOCKS, FOUR_BLOCKS, RECORD};
 use samples::{
-    handshake, lock_and_menu, next_sixteen_next_seventeen, rings, ruled_handshake, state,
-    ticking_in_turn, two_inputs,
+    design, four_choices, handshake, lock_and_menu, next_sixteen_next_seventeen, rings,
+    ruled_handshake, three_delayed, three_rings, thumbnails, ticking_in_turn, two_inputs, viewer,
 };
 
 /// The rows of the specification, with the count that stands there.
@@ -29,20 +29,27 @@ fn rows() {
         (lock_and_menu(), Ok(32)),
         (rings(Formula::Always(14)), Ok(65_536)),
         (rings(Formula::Until(14, 4)), Err(Refused::POSITIONS)),
+        (viewer(idle_side()), Ok(16)),
+        (viewer(thumbnails(false)), Ok(32)),
+        (viewer(thumbnails(true)), Ok(32)),
+        (four_choices(), Ok(1)),
+        (three_delayed(), Ok(1)),
+        (three_rings(Formula::Always(9)), Ok(65_536)),
+        (three_rings(Formula::Until(9, 5)), Err(Refused::POSITIONS)),
     ];
     for (made, count) in rows {
-        assert_eq!(gorzhani::positions(&made.to_bytes()), count, "{made:?}");
+        for bytes in [made.to_bytes(), made.to_five_blocks()] {
+            assert_eq!(gorzhani::positions(&bytes), count, "{made:?}");
+        }
     }
 }
 
-/// One ticking state on each side, so that the kept formulas alone count: 2 to their power, times
+/// One ticking state on every side, so that the kept formulas alone count: 2 to their power, times
 /// the untils.
 #[test]
 fn kept_formulas() {
     let counted = |formulas: Vec<Formula>, rules: Vec<u8>| {
-        let side = || vec![state(&[], &[(0, 0)])];
-        let made = Design { sides: [side(), side()], formulas, rules };
-        gorzhani::positions(&made.to_bytes())
+        gorzhani::positions(&design([], formulas, rules).to_bytes())
     };
     for rules in 0..=16 {
         let numbers = (0..rules).collect();
@@ -68,7 +75,8 @@ fn sound() {
     let mut random = Random::new(701);
     let mut answers = Answers::default();
     for round in 0..20_000 {
-        answers.count(positions_agrees(&mixed_design(&mut random, round).to_bytes()));
+        let made = mixed_design(&mut random, round);
+        answers.count(positions_agrees(&any_bytes(&mut random, &made)));
     }
     answers.are(&[0, 9], 1_000);
 }
@@ -78,7 +86,8 @@ fn damaged() {
     let mut random = Random::new(702);
     let mut answers = Answers::default();
     for _ in 0..20_000 {
-        let mut bytes = any_design(&mut random).to_bytes();
+        let made = any_design(&mut random);
+        let mut bytes = any_bytes(&mut random, &made);
         damage(&mut random, &mut bytes);
         answers.count(positions_agrees(&bytes));
     }
@@ -92,11 +101,14 @@ fn damaged() {
 fn every_damage_of_one_byte() {
     let mut random = Random::new(705);
     let mut answers = Answers::default();
-    for shape in [Shape::TINY, Shape::SMALL, Shape::FULL] {
-        let sound = ruled_design(&mut random, &shape).to_bytes();
-        for at in 0..DESIGN {
-            let (block, place) = (at / 512, at % 512);
-            let records = [20, 20, 4, 1][block] * usize::from(sound[512 * block + 1]);
+    let mut made =
+        [Shape::TINY, Shape::SMALL, Shape::FULL].map(|shape| ruled_design(&mut random, &shape));
+    made[1].sides[2] = idle_side();
+    let sounds = made.map(|design| design.to_bytes());
+    assert_eq!(sounds.each_ref().map(Vec::len), [FIVE_BLOCKS, FOUR_BLOCKS, FIVE_BLOCKS]);
+    for sound in sounds {
+        for at in 0..sound.len() {
+            let (place, records) = (at % BLOCK, record_bytes(&sound, at / BLOCK));
             for change in 1..=255 {
                 let mut bytes = sound.clone();
                 bytes[at] = bytes[at].wrapping_add(change);
@@ -117,11 +129,19 @@ fn every_damage_of_one_byte() {
 
 #[test]
 fn every_length() {
-    let mut bytes = ruled_handshake(false).to_bytes();
-    bytes.extend_from_within(..);
-    for length in 0..=bytes.len() {
-        let expected = if length == DESIGN { Ok(1_024) } else { Err(Refused::LENGTH) };
-        assert_eq!(gorzhani::positions(&bytes[..length]), expected, "{length}");
+    let design = ruled_handshake(false);
+    for sound in [design.to_bytes(), design.to_five_blocks()] {
+        let mut bytes = sound.clone();
+        bytes.extend_from_within(..);
+        for length in 0..=bytes.len() {
+            let expected = match length {
+                _ if length == sound.len() => Ok(1_024),
+                // The other length of designs, with blocks of other kinds.
+                FOUR_BLOCKS | FIVE_BLOCKS => Err(Refused::HEADER),
+                _ => Err(Refused::LENGTH),
+            };
+            assert_eq!(gorzhani::positions(&bytes[..length]), expected, "{length}");
+        }
     }
 }
 
@@ -131,7 +151,8 @@ fn a_search_asks_for_just_so_much() {
     let mut random = Random::new(704);
     let mut tried = 0;
     while tried < 3_000 {
-        let bytes = any_design(&mut random).to_bytes();
+        let made = any_design(&mut random);
+        let bytes = any_bytes(&mut random, &made);
         let count = match gorzhani::positions(&bytes) {
             Ok(count @ ..=4_096) => count,
             _ => continue,

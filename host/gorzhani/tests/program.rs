@@ -9,9 +9,9 @@ use std::path::Path;
 use std::process::{Command, Stdio};
 use std::time::Duration;
 
-use checker::bytes::{read_blocks, Formula};
-use checker::generate::{damage, design, ruled_design, side, Random, Shape};
-use gorzhani::{Refused, BLOCK, CELL, DESIGN, RECORD};
+use checker::bytes::{idle_side, read_blocks, Formula};
+use checker::generate::{any_bytes, damage, design, ruled_design, Random, Shape};
+use gorzhani::{Refused, BLOCK, CELL, FIVE_BLOCKS, FOUR_BLOCKS, RECORD};
 
 /// What the program writes when it is handed these pieces, one after the other.
 fn written(pieces: &[&[u8]]) -> Vec<u8> {
@@ -38,7 +38,7 @@ fn written(pieces: &[&[u8]]) -> Vec<u8> {
 
 /// The same from the library's calls, with the number of the refusal.
 fn expected(design: &[u8]) -> (Vec<u8>, u8) {
-    let (mut table, mut work) = (vec![0; 64_512], vec![0; 28_672]);
+    let (mut table, mut work) = (vec![0; 59_904], vec![0; 18_432]);
     match gorzhani::search(design, &mut table, &mut work) {
         Err(Refused(number)) => (format!("refused {number}\n").into_bytes(), number),
         Ok(records) => {
@@ -75,7 +75,7 @@ fn designs() {
             1 => design(&mut random, &Shape::FULL),
             _ => ruled_design(&mut random, &Shape::TINY),
         };
-        let mut bytes = made.to_bytes();
+        let mut bytes = any_bytes(&mut random, &made);
         if round % 2 == 0 {
             damage(&mut random, &mut bytes);
         }
@@ -103,14 +103,27 @@ fn no_converter() {
     assert_eq!(written(&[&samples::handshake(formulas, vec![2]).to_bytes()]), b"refused 16\n");
 }
 
+/// The program has room for 1,152 positions. The next number that can be one is 1,155.
+#[test]
+fn positions_that_fit() {
+    let ring = |states: u8| {
+        (0..states).map(|own| samples::state(&[], &[(0, (own + 1) % states)])).collect::<Vec<_>>()
+    };
+    let made = |counts: [u8; 3]| samples::design(counts.map(ring), vec![], vec![]).to_bytes();
+    assert_eq!(convert_agrees(&made([16, 9, 8])), 0);
+    assert_eq!(written(&[&made([15, 11, 7])]), b"refused 12\n");
+}
+
 #[test]
 fn lengths() {
-    let sound = design(&mut Random::new(110), &Shape::SMALL).to_bytes();
-    let mut longer = sound.clone();
-    longer.extend_from_slice(&sound);
-    for length in [0, 1, 511, 512, DESIGN - 1, DESIGN + 1, DESIGN + 512, 2 * DESIGN] {
-        assert_eq!(written(&[&longer[..length]]), b"refused 1\n", "{length}");
+    let sound = design(&mut Random::new(110), &Shape::SMALL).to_five_blocks();
+    let longer = [&sound[..], &sound].concat();
+    let around = [FOUR_BLOCKS, FIVE_BLOCKS].map(|length| [length - 1, length + 1]);
+    for length in [0, 1, 511, 512, 1_536, 3_072, 5_120].iter().chain(around.as_flattened()) {
+        assert_eq!(written(&[&longer[..*length]]), b"refused 1\n", "{length}");
     }
+    // The four blocks in front are of other kinds than those of a design of four.
+    assert_eq!(written(&[&longer[..FOUR_BLOCKS]]), b"refused 3\n");
 }
 
 /// A design that comes in pieces is one design.
@@ -118,11 +131,13 @@ fn lengths() {
 fn pieces() {
     let mut random = Random::new(111);
     let mut made = design(&mut random, &Shape::SMALL);
-    made.sides = [side(&mut random, &Shape::SMALL), side(&mut random, &Shape::SMALL)];
     (made.formulas, made.rules) = (vec![Formula::True], vec![0]);
-    let bytes = made.to_bytes();
-    let output = written(&[&bytes[..1], &bytes[1..700], &bytes[700..2047], &bytes[2047..]]);
-    let (whole, number) = expected(&bytes);
-    assert_eq!((output, number), (whole, 0));
-    assert_eq!(written(&[&bytes, b"x"]), b"refused 1\n");
+    made.sides[2] = idle_side();
+    for bytes in [made.to_bytes(), made.to_five_blocks()] {
+        let end = bytes.len() - 1;
+        let output = written(&[&bytes[..1], &bytes[1..700], &bytes[700..end], &bytes[end..]]);
+        let (whole, number) = expected(&bytes);
+        assert_eq!((output, number), (whole, 0));
+        assert_eq!(written(&[&bytes, b"x"]), b"refused 1\n");
+    }
 }

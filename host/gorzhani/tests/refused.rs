@@ -7,7 +7,7 @@ use std::error::Error;
 
 use checker::refusal;
 use common::header;
-use gorzhani::{Refused, BLOCK, CELL, DESIGN, MOST, RECORD};
+use gorzhani::{Refused, BLOCK, BLOCK_RECORDS, CELL, FIVE_BLOCKS, FOUR_BLOCKS, MOST, RECORD};
 
 /// What stands behind the number.
 fn wrong(number: u8) -> String {
@@ -20,17 +20,17 @@ fn wrong(number: u8) -> String {
 fn each_number_says_what_is_wrong() {
     // Words of the specification's list that stand in one sentence alone.
     let words = [
-        "2,048 bytes",
+        "2,048 or 2,560 bytes",
         "a block's check",
         "kind or first record",
         "a block's record count",
         "a target that isn't a state",
         "neither input, output-only nor delayed",
-        "a proposition over 31",
+        "a proposition over 47",
         "an unused byte outside converter records",
         "over 65,536 positions",
         "a converter in memory is empty",
-        "an event pair twice",
+        "an event triple twice",
         "the lent result is too short",
         "the lent work is too short",
         "isn't matched to the sides",
@@ -90,17 +90,18 @@ fn constants() {
         assert_eq!((number, other, declared), (own, own, usize::from(own)), "{name}");
     }
     for (name, size) in [
-        ("DESIGN_BYTES", DESIGN),
+        ("FOUR_BLOCK_DESIGN_BYTES", FOUR_BLOCKS),
+        ("FIVE_BLOCK_DESIGN_BYTES", FIVE_BLOCKS),
         ("RECORD_BYTES", RECORD),
         ("BLOCK_BYTES", BLOCK),
-        ("BLOCK_RECORDS", 14),
+        ("BLOCK_RECORDS", BLOCK_RECORDS),
         ("CELL_BYTES", CELL),
         ("MOST_POSITIONS", MOST),
         ("MOST_RECORDS", MOST),
-        ("MOST_BLOCKS", MOST.div_ceil(14)),
-        ("MOST_TABLE_BYTES", 36 * 65_536),
+        ("MOST_BLOCKS", MOST.div_ceil(9)),
+        ("MOST_TABLE_BYTES", 52 * 65_536),
         ("MOST_WORK_BYTES", 16 * 65_536),
-        ("MOST_BLOCKS_BYTES", 512 * 4_682),
+        ("MOST_BLOCKS_BYTES", 512 * 7_282),
     ] {
         assert_eq!(header(&format!("GORZHANI_{name}")), size, "{name}");
     }

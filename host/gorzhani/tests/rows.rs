@@ -5,18 +5,25 @@ mod common;
 #[path = "../../checker/tests/samples/mod.rs"]
 mod samples;
 
-use checker::bytes::{converter_bytes, positions, Design, Formula, Record};
-use common::{judge_agrees, search_agrees, tick_agrees};
-use gorzhani::{Runner, CELL, RECORD};
+use checker::bytes::{converter_bytes, idle_side, positions, Design, Formula, Record, SIDES};
+use common::{found, judge_agrees, search_agrees, tick_agrees};
+use gorzhani::{Runner, BLOCK, CELL, FIVE_BLOCKS, FOUR_BLOCKS, RECORD};
 use samples::{
-    figure_five, handshake, lock_and_menu, lock_and_menu_converter, mistaken_labels,
-    next_sixteen_next_seventeen, record, ruled_handshake, state, ticking_in_turn, two_inputs,
+    design, events_at_four_choices, events_of_three_delayed, figure_five, four_choices, handshake,
+    lock_and_menu, lock_and_menu_converter, mistaken_labels, next_sixteen_next_seventeen,
+    one_record, record, reordered, ruled_handshake, state, three_delayed, thumbnails,
+    ticking_in_turn, two_inputs, viewer, ORDERS,
 };
 
-/// The answer to a search with the lengths that are demanded; 0 is a converter.
+/// The answer to a search with the lengths that are demanded; 0 is a converter. Where a design has
+/// four blocks, five say the same.
 fn searched(design: &Design) -> u8 {
     let size = positions(design) as usize;
-    search_agrees(&design.to_bytes(), RECORD * size, CELL * size)
+    let four_or_five = [design.to_bytes(), design.to_five_blocks()];
+    let [answer, other] =
+        four_or_five.map(|bytes| search_agrees(&bytes, RECORD * size, CELL * size));
+    assert_eq!(answer, other, "{design:?}");
+    answer
 }
 
 fn judged(design: &Design, converter: &[Record]) -> u8 {
@@ -49,25 +56,26 @@ fn figure_five_unmatched() {
     fourth.push(record([0, 1], &[([1, -2], 1), ([0, -2], 0)]));
     fourth[0] = record([0, 0], &[([1, 0], 1), ([0, 0], 0), ([0, -1], 3)]);
     assert_eq!(judged(&mended, &fourth), 14);
-    // A record that nothing leads to counts too, even where its pair is never reached.
+    // A record that nothing leads to counts too, even where its joint state is never reached.
     let mut unreached = figure_five();
     unreached.push(record([1, 1], &[([2, -2], 0), ([0, -2], 1)]));
     assert_eq!(judged(&mended, &unreached), 0);
     unreached[3].links.remove(1);
     assert_eq!(judged(&mended, &unreached), 14);
-    unreached[3].states = [2, 1];
+    unreached[3].states[0] = 2;
     assert_eq!(judged(&mended, &unreached), 14);
 }
 
 #[test]
 fn figure_five_ticking() {
     let converter = converter_bytes(&figure_five());
-    let mut runner = Runner { record: 1, first: 5, second: 6 };
-    assert_eq!(tick_agrees(&converter, &mut runner, [-2, 0]), 0);
-    assert_eq!(runner, Runner { record: 2, first: -2, second: 1 });
-    let mut runner = Runner { record: 0, first: 5, second: 6 };
-    assert_eq!(tick_agrees(&converter, &mut runner, [-2, 0]), 17);
-    assert_eq!(runner, Runner { record: 0, first: 5, second: 6 });
+    let mut runner = Runner { record: 1, first: 5, second: 6, third: 7 };
+    assert_eq!(tick_agrees(&converter, &mut runner, [-2, 0, 0]), 0);
+    assert_eq!(runner, Runner { record: 2, first: -2, second: 1, third: 0 });
+    let start = Runner { record: 0, first: 5, second: 6, third: 7 };
+    let mut runner = start;
+    assert_eq!(tick_agrees(&converter, &mut runner, [-2, 0, 0]), 17);
+    assert_eq!(runner, start);
 }
 
 #[test]
@@ -112,42 +120,134 @@ fn lock_and_menu_are_told_apart() {
 #[test]
 fn propositions_at_the_edge() {
     let literals: [fn(u8) -> Formula; 2] = [Formula::Proposition, Formula::NotProposition];
-    // No state of H has the host's bit 15.
+    // No state of H has the host's bit 15, and its third side has no labels.
     for (literal, answer) in literals.into_iter().zip([16, 0]) {
         let naming = |proposition| handshake(vec![literal(proposition)], vec![0]);
-        assert_eq!(searched(&naming(31)), answer);
-        assert_eq!(searched(&naming(32)), 7);
-        assert_eq!(judged(&naming(32), &figure_five()), 7);
+        for taken in [31, 32, 47] {
+            assert_eq!(searched(&naming(taken)), answer);
+        }
+        assert_eq!(searched(&naming(48)), 7);
+        assert_eq!(judged(&naming(48), &figure_five()), 7);
     }
 }
 
 #[test]
 fn events_and_ticks_at_the_edge() {
-    let beside = |first| Design {
-        sides: [first, vec![state(&[], &[(0, 0)])]],
-        formulas: vec![],
-        rules: vec![],
-    };
-    let sending = |event| beside(vec![state(&[], &[(event, 0)])]);
-    assert_eq!(searched(&sending(-63)), 0);
-    assert_eq!(searched(&sending(-64)), 5);
-    let waiting = |target| beside(vec![state(&[], &[(0, target), (-1, 0)]), state(&[], &[(0, 0)])]);
-    assert_eq!(searched(&waiting(0)), 0);
-    assert_eq!(searched(&waiting(1)), 6);
+    // Whichever side it is.
+    for order in ORDERS {
+        let beside = |side| reordered(&design([side], vec![], vec![]), order);
+        let sending = |event| beside(vec![state(&[], &[(event, 0)])]);
+        assert_eq!(searched(&sending(-63)), 0);
+        assert_eq!(searched(&sending(-64)), 5);
+        let waiting =
+            |target| beside(vec![state(&[], &[(0, target), (-1, 0)]), state(&[], &[(0, 0)])]);
+        assert_eq!(searched(&waiting(0)), 0);
+        assert_eq!(searched(&waiting(1)), 6);
+    }
 }
 
 /// 510 bytes of 255 have the check 64,514: with it the block's kind is wrong,
 /// with any other number the check is.
 #[test]
 fn check_of_many_bytes() {
-    let mut bytes = vec![255; 2_048];
-    for block in bytes.chunks_mut(512) {
-        block[510..].copy_from_slice(&64_514_u16.to_le_bytes());
+    for blocks in [4, 5] {
+        let mut bytes = vec![255; BLOCK * blocks];
+        for block in bytes.chunks_mut(BLOCK) {
+            block[510..].copy_from_slice(&64_514_u16.to_le_bytes());
+        }
+        assert_eq!(search_agrees(&bytes, RECORD, CELL), 3);
+        for block in 0..blocks {
+            let mut wrong = bytes.clone();
+            wrong[BLOCK * block + 510] += 1;
+            assert_eq!(search_agrees(&wrong, RECORD, CELL), 2);
+        }
     }
-    assert_eq!(search_agrees(&bytes, 36, 16), 3);
-    for block in 0..4 {
-        let mut wrong = bytes.clone();
-        wrong[512 * block + 510] += 1;
-        assert_eq!(search_agrees(&wrong, 36, 16), 2);
+}
+
+/// Pictures come again and again beside a third side that never waits while 32 holds, or beside
+/// none. Where it may wait there for ever, no converter exists.
+#[test]
+fn a_third_side_breaks_a_two_sided_verdict() {
+    let (alone, waiting) = (viewer(idle_side()), viewer(thumbnails(true)));
+    let prompt = viewer(thumbnails(false));
+    let lengths = [&alone, &prompt, &waiting].map(|design| design.to_bytes().len());
+    assert_eq!(lengths, [FOUR_BLOCKS, FIVE_BLOCKS, FIVE_BLOCKS]);
+    assert_eq!((positions(&alone), searched(&alone)), (16, 0));
+    assert_eq!((positions(&prompt), searched(&prompt)), (32, 0));
+    assert_eq!((positions(&waiting), searched(&waiting)), (32, 16));
+    // One picture is enough, at a time when 32 doesn't hold.
+    let designs = [&alone, &prompt, &waiting];
+    for (design, answer) in designs.into_iter().zip([(4, 0), (8, 0), (8, 16)]) {
+        let formulas = vec![
+            Formula::True,
+            Formula::Proposition(16),
+            Formula::NotProposition(32),
+            Formula::And(1, 2),
+            Formula::Until(0, 3),
+        ];
+        let once = Design { formulas, rules: vec![4], ..design.clone() };
+        assert_eq!((positions(&once), searched(&once)), answer);
+    }
+    // A converter with zeros for the third side doesn't let it send.
+    let converter = found(&alone.to_bytes()).expect("nothing is in the way");
+    let work = CELL * (converter.len() / RECORD);
+    for (design, answer) in [(alone, 0), (prompt, 14), (waiting, 14)] {
+        assert_eq!(judge_agrees(&design.to_bytes(), &converter, work), answer);
+    }
+}
+
+/// Record 0 names state 0 of every side, and a tick leads where the next record says.
+#[test]
+fn three_names_are_compared() {
+    let side = vec![state(&[], &[(0, 0)]), state(&[], &[(0, 1)])];
+    let made = design([side.clone(), side.clone(), side], vec![], vec![]);
+    let staying = |states: [u8; SIDES], next: u16| record(states, &[([0; SIDES], next)]);
+    assert_eq!(judged(&made, &[staying([0; SIDES], 0)]), 0);
+    for states in [[1, 0, 0], [0, 1, 0], [0, 0, 1]] {
+        assert_eq!(judged(&made, &[staying(states, 0)]), 14);
+        assert_eq!(judged(&made, &[staying([0; SIDES], 0), staying(states, 1)]), 0);
+        assert_eq!(judged(&made, &[staying([0; SIDES], 1), staying(states, 1)]), 14);
+    }
+}
+
+/// Searches a design of one joint state, whose one record has so many transitions, and judges
+/// records with these events.
+fn one_joint_state(design: &Design, links: u8, tried: Vec<(Vec<[i8; SIDES]>, bool)>) {
+    assert_eq!((positions(design), searched(design)), (1, 0));
+    let found = found(&design.to_bytes()).expect("there are no rules");
+    // The count stands behind the names of the sides' states.
+    assert_eq!(found[..4], [0, 0, 0, links]);
+    for (events, matched) in tried {
+        let expected = if matched { 0 } else { 14 };
+        assert_eq!(judged(design, &one_record(&events)), expected, "{events:?}");
+    }
+}
+
+#[test]
+fn one_transition_for_each_of_four_choices() {
+    one_joint_state(&four_choices(), 4, events_at_four_choices());
+}
+
+#[test]
+fn every_joint_move_of_three_delayed_sides() {
+    one_joint_state(&three_delayed(), 8, events_of_three_delayed());
+}
+
+/// Two of three sides send or tick beside a host that reads: each shown triple has its
+/// transition.
+#[test]
+fn ticks_of_three_sides() {
+    let (right, _) = events_at_four_choices().remove(0);
+    let converter = converter_bytes(&one_record(&right));
+    for events in right {
+        let delivered = events.map(|event| -event);
+        let [first, second, third] = delivered;
+        let mut runner = Runner { record: 0, first: 9, second: 9, third: 9 };
+        assert_eq!(tick_agrees(&converter, &mut runner, delivered.map(|event| event.min(0))), 0);
+        assert_eq!(runner, Runner { record: 0, first, second, third });
+        // The host sends nothing, and the third side nothing but 3.
+        for shown in [[first, -1, third], [first, 0, -2], [first, 0, 1], [first, 0, -64]] {
+            assert_eq!(tick_agrees(&converter, &mut runner, shown), 17, "{shown:?}");
+        }
     }
 }

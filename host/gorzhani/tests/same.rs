@@ -5,7 +5,7 @@
 mod common;
 
 use checker::bytes::positions;
-use checker::generate::{ruled_design, Random, Shape};
+use checker::generate::{any_bytes, ruled_design, Random, Shape};
 use common::{about, mixed_design, size, Answers};
 use gorzhani::{Refused, CELL, RECORD};
 
@@ -30,7 +30,8 @@ fn random_designs() {
     let mut random = Random::new(401);
     let mut answers = Answers::default();
     for round in 0..12_000 {
-        let bytes = mixed_design(&mut random, round).to_bytes();
+        let made = mixed_design(&mut random, round);
+        let bytes = any_bytes(&mut random, &made);
         let size = size(&bytes, 1 << 13);
         let table_length = about(&mut random, RECORD * size);
         let work_length = about(&mut random, CELL * size);
@@ -43,7 +44,7 @@ fn random_designs() {
 fn large_designs() {
     let mut random = Random::new(402);
     let mut answers = Answers::default();
-    let shape = Shape { states: 16, transitions: 4, propositions: 6, formulas: 24, rules: 5 };
+    let shape = Shape { transitions: 4, propositions: 6, formulas: 24, rules: 5, ..Shape::FULL };
     while answers.total() < 300 {
         let made = ruled_design(&mut random, &shape);
         if (4_097..=65_536).contains(&positions(&made)) {

@@ -8,11 +8,13 @@ mod samples;
 
 use std::arch::asm;
 
-use checker::bytes::{converter_bytes, Formula};
-use checker::generate::{any_converter, block_file, damage, loose_converter, script, Random};
+use checker::bytes::{converter_bytes, Formula, SIDES};
+use checker::generate::{
+    any_bytes, any_converter, block_file, damage, loose_converter, script, Random,
+};
 use common::{header, mixed_design, Answers};
-use gorzhani::{Runner, BLOCK, CELL, MOST, RECORD};
-use samples::rings;
+use gorzhani::{Runner, BLOCK, BLOCK_RECORDS, CELL, MOST, RECORD};
+use samples::{rings, three_rings};
 
 // The library's functions, to be called by hand.
 extern "C" {
@@ -124,7 +126,8 @@ impl Calls {
     /// Judges a converter, writes it and reads it back.
     fn converter(&mut self, design: &[u8], converter: &[u8]) {
         let records = converter.len() / RECORD;
-        let (mut work, mut file) = (vec![0; CELL * records], vec![0; BLOCK * records.div_ceil(14)]);
+        let (mut work, mut file) =
+            (vec![0; CELL * records], vec![0; BLOCK * records.div_ceil(BLOCK_RECORDS)]);
         let ([design_at, design_length], [at, length]) = (read(design), read(converter));
         let ([work_at, work_length], [file_at, file_length]) =
             (written(&mut work), written(&mut file));
@@ -138,19 +141,19 @@ impl Calls {
 
     /// Reads a file of blocks.
     fn file(&mut self, file: &[u8]) {
-        let mut memory = vec![0; RECORD * 14 * file.len().div_ceil(BLOCK)];
+        let mut memory = vec![0; RECORD * BLOCK_RECORDS * file.len().div_ceil(BLOCK)];
         let ([file_at, file_length], [at, length]) = (read(file), written(&mut memory));
         // SAFETY: as above.
         unsafe { self.read.with([file_at, file_length, at, length, 0, 0]) };
     }
 
     /// Ticks once.
-    fn tick(&mut self, converter: &[u8], runner: &mut Runner, shown: [i8; 2]) {
+    fn tick(&mut self, converter: &[u8], runner: &mut Runner, shown: [i8; SIDES]) {
         let [at, length] = read(converter);
-        let [first, second] = shown.map(|event| event as usize);
+        let [first, second, third] = shown.map(|event| event as usize);
         let runner: *mut Runner = runner;
         // SAFETY: as above; the runner is lent and nothing else refers to it.
-        unsafe { self.tick.with([at, length, runner as usize, first, second, 0]) };
+        unsafe { self.tick.with([at, length, runner as usize, first, second, third]) };
     }
 }
 
@@ -170,7 +173,7 @@ fn no_call_takes_more_than_the_header_says() {
     let mut calls = Calls::new();
     for round in 0..10_000 {
         let made = mixed_design(&mut random, round);
-        let mut bytes = made.to_bytes();
+        let mut bytes = any_bytes(&mut random, &made);
         if random.once_in(2) {
             damage(&mut random, &mut bytes);
         }
@@ -187,10 +190,13 @@ fn no_call_takes_more_than_the_header_says() {
         calls.file(&file);
     }
     // As many positions and as many records as there may be.
-    let full = rings(Formula::Always(14)).to_bytes();
-    let found = calls.design(&full, MOST).expect("there is a converter");
-    calls.converter(&full, &found);
-    calls.converter(&full, &converter_bytes(&loose_converter(&mut random, MOST)));
+    let most = converter_bytes(&loose_converter(&mut random, MOST));
+    for full in [rings(Formula::Always(14)), three_rings(Formula::Always(9))] {
+        let bytes = full.to_bytes();
+        let found = calls.design(&bytes, MOST).expect("there is a converter");
+        calls.converter(&bytes, &found);
+        calls.converter(&bytes, &most);
+    }
 
     calls.positions.took(&[0, 1, 2, 3, 4, 5, 6, 7, 8, 9], "GORZHANI_POSITIONS_STACK");
     calls.search.took(&[0, 1, 2, 3, 4, 5, 6, 7, 8, 9, 12, 16], "GORZHANI_SEARCH_STACK");

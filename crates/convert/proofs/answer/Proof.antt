@@ -1,4 +1,4 @@
--- `answer` is safe and ends: 1,792 records fill 128 blocks at most.
+-- `answer` is safe and ends: 1,152 records fill 128 blocks at most.
 use Prim.Native.Nat.{_*_, _≤_}
 use native.Mathlib.Omega.{arith}
 use lib.ListN.{length, length-take}

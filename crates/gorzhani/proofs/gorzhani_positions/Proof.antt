@@ -5,7 +5,7 @@ use borrow.Author.Needs.{needs}
 use lib.IntN.{pos}
 use Rattle.model.specs.Positions.{positions}
 use Rattle.layout.specs.Designs.{design}
-use Rattle.refusals.proofs.CountedBytes.{accepted-counts}
+use Rattle.refusals.proofs.WellFormed.{accepted-counts}
 use Rattle.refusals.specs.Counted.{Accepted}
 use Rattle.gorzhani.specs.Codes.{refusal-code}
 use Rattle.gorzhani.specs.Calls.{positions-refusal}

@@ -9,7 +9,7 @@ use Rattle.layout.specs.Sizes.{most-positions}
 use Rattle.layout.specs.Designs.{design}
 use Rattle.refusals.specs.Refusals.{first-failing, positions-test, design-refusal}
 use Rattle.refusals.proofs.Passing.{passes-on, stops-at}
-use Rattle.refusals.proofs.CountedBytes.{accepted-counts}
+use Rattle.refusals.proofs.WellFormed.{accepted-counts}
 use Rattle.gorzhani.proofs.Positions.{refused-by-design, refused-behind}
 use Rattle.gorzhani.proofs.positions_refusal.Statement.{statement}
 use Rattle.gorzhani.proofs.positions_refusal.Tie as tie

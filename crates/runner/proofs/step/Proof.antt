@@ -16,14 +16,16 @@ use Rattle.runner.proofs.step.Tie as tie
 
 -- what is shown
 abbrev shown : tie.Start → List Event
-shown s = s .args .first ∷ s .args .second ∷ []
+shown s = s .args .first ∷ s .args .second ∷ s .args .third ∷ []
 
 -- as the machine reads it back
 abbrev again : Event → Event
 again x = toZ w8 (ofZ w8 x)
 
-read : (s : tie.Start) → again (s .args .first) ∷ again (s .args .second) ∷ [] ≡ shown s
-read s = ap₂ {C = List Event} (λ x y. x ∷ y ∷ []) (read-back (s .args .first) (s .fits .first .sfits)) (read-back (s .args .second) (s .fits .second .sfits))
+read : (s : tie.Start) → again (s .args .first) ∷ again (s .args .second) ∷ again (s .args .third) ∷ [] ≡ shown s
+read s =
+    ap₂ {C = List Event} _∷_ (read-back (s .args .first) (s .fits .first .sfits))
+    (ap₂ {C = List Event} (λ x y. x ∷ y ∷ []) (read-back (s .args .second) (s .fits .second .sfits)) (read-back (s .args .third) (s .fits .third .sfits)))
 
 -- the tests' answer
 tested : (c : tie.After-tick-refusal) → c .tick-refusal .result ≡ tick-refusal (c .before .before .before .args .converter .now) (c .before .before .before .args .runner .«record») (shown (c .before .before .before))

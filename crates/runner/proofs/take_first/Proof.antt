@@ -84,6 +84,9 @@ array-copy-out-moved c = search needs
 array-copy-out-moved-2 : tie.Need-array-copy-out-moved-2 Inv-loop μ-loop
 array-copy-out-moved-2 c = search needs
 
+array-copy-out-moved-3 : tie.Need-array-copy-out-moved-3 Inv-loop μ-loop
+array-copy-out-moved-3 c = search needs
+
 moved-requires : tie.Need-moved-requires Inv-loop μ-loop
 moved-requires c κs = search needs
 
@@ -91,7 +94,7 @@ returns : tie.Need-returns Inv-loop μ-loop
 unfolding taken
 returns c =
     let last = c .before in
-    let test = last .before .before in
+    let test = last .before .before .before in
     let f = test .before in
     let s = start (inside f) in
     let l = inside f .before .loop in
@@ -99,10 +102,11 @@ returns c =
     let q = f .before .duals .result in
     let m = made (f .before) in
     let next = ap (λ x. x .next) (f .before .before .before .edge-at .ensures) in
-    let first = read-back (getD q 0 tick) (last .before .moved-arg .given) ∙ ap (λ es. getD es 0 tick) m in
-    let second = read-back (getD q 1 tick) (last .moved-arg2 .given) ∙ ap (λ es. getD es 1 tick) m in
+    let first = read-back (getD q 0 tick) (last .before .before .moved-arg .given) ∙ ap (λ es. getD es 0 tick) m in
+    let second = read-back (getD q 1 tick) (last .before .moved-arg2 .given) ∙ ap (λ es. getD es 1 tick) m in
+    let third = read-back (getD q 2 tick) (last .moved-arg3 .given) ∙ ap (λ es. getD es 2 tick) m in
     ap (λ r. record { answer = Done; runner = r }) (c .moved .ensures)
-    ∙ (λ i. record { answer = Done; runner = record { «record» = next i; first = first i; second = second i } })
+    ∙ (λ i. record { answer = Done; runner = record { «record» = next i; first = first i; second = second i; third = third i } })
     ∙ sym (ap (taken (s .args .runner)) p)
 
 add-k : tie.Need-add-k Inv-loop μ-loop
@@ -139,6 +143,7 @@ take-first-spec =
     fits-events-requires
     array-copy-out-moved
     array-copy-out-moved-2
+    array-copy-out-moved-3
     moved-requires
     returns
     add-k

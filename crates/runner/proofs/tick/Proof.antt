@@ -65,7 +65,7 @@ use Rattle.runner.proofs.tick.Statement as stated
 use Rattle.runner.proofs.tick.Code as code
 
 abbrev stayed : Stays (tick.ended .signature .params) (tick.ended .kept)
-stayed = (stay-none-slice (0 ∷ []) tt (plain (λ _. u8)) yes, (stay-ref (1 ∷ []) tt (plain (λ _. R.the-row)), (stay-none (λ _. i8) yes, (stay-none (λ _. i8) yes, tt))))
+stayed = (stay-none-slice (0 ∷ []) tt (plain (λ _. u8)) yes, (stay-ref (1 ∷ []) tt (plain (λ _. R.the-row)), (stay-none (λ _. i8) yes, (stay-none (λ _. i8) yes, (stay-none (λ _. i8) yes, tt)))))
 
 -- the machine values of a runner, of an answer and of both
 abbrev mach : Runner → Val
@@ -81,7 +81,7 @@ mach-both t = LL.val T.the-type T′.the-laws t
 abbrev Step : {M : Type 1} (𝓤 : URA M) (H : Heap 𝓤) (A : Atoms 𝓤) (mem : Memory → SProp 𝓤) (run : Routine → Fun 𝓤) → Contract 𝓤
 Step 𝓤 H A mem run = tripleOf 𝓤 H A step.signature (step.spec 𝓤 H A mem run)
 
-module _ {M : Type 1} (𝓤 : URA M) (H : Heap 𝓤) (A : Atoms 𝓤) (W : Given 𝓤 H A) (at-mem : Memory → SProp 𝓤) (run : Routine → Fun 𝓤) (κ κ′ : Lft) (q q′ : Share) (bounds : AllOutlive 2 (tick.signature .outlives) (κ, (κ′, tt))) (s : RefT (List ℕ)) (b o : ℕ) (γ : GName) (h : Runner) (x y : ℤ) (x-fits : mag x < 128) (y-fits : mag y < 128) where
+module _ {M : Type 1} (𝓤 : URA M) (H : Heap 𝓤) (A : Atoms 𝓤) (W : Given 𝓤 H A) (at-mem : Memory → SProp 𝓤) (run : Routine → Fun 𝓤) (κ κ′ : Lft) (q q′ : Share) (bounds : AllOutlive 2 (tick.signature .outlives) (κ, (κ′, tt))) (s : RefT (List ℕ)) (b o : ℕ) (γ : GName) (h : Runner) (x y z : ℤ) (x-fits : mag x < 128) (y-fits : mag y < 128) (z-fits : mag z < 128) where
   -- the slice's machine value
   abbrev v : Val
   v = sliceVal (s .ptr) (length (s .now))
@@ -90,33 +90,33 @@ module _ {M : Type 1} (𝓤 : URA M) (H : Heap 𝓤) (A : Atoms 𝓤) (W : Given
   Own = ShrSlice (named 0) κ u8 .own s (v ∷ [])
 
   abbrev Arg : Type 0
-  Arg = RefT (List ℕ) × (RefT Runner × (ℤ × (ℤ × Unit {0})))
+  Arg = RefT (List ℕ) × (RefT Runner × (ℤ × (ℤ × (ℤ × Unit {0}))))
 
   abbrev a : Arg
-  a = (s, (record { ptr = (b, o); name = γ; now = h }, (x, (y, tt))))
+  a = (s, (record { ptr = (b, o); name = γ; now = h }, (x, (y, (z, tt)))))
 
-  abbrev vals : List Val × (List Val × (List Val × (List Val × Unit {0})))
-  vals = (v ∷ [], (vptr b o ∷ [], (vint w8 (ofZ w8 x) ∷ [], (vint w8 (ofZ w8 y) ∷ [], tt))))
+  abbrev vals : List Val × (List Val × (List Val × (List Val × (List Val × Unit {0}))))
+  vals = (v ∷ [], (vptr b o ∷ [], (vint w8 (ofZ w8 x) ∷ [], (vint w8 (ofZ w8 y) ∷ [], (vint w8 (ofZ w8 z) ∷ [], tt)))))
 
   -- what the tick gives
   abbrev found : Ticked
-  found = ticked (now s) h (x ∷ y ∷ [])
+  found = ticked (now s) h (x ∷ y ∷ z ∷ [])
 
   abbrev Post : Val → SProp 𝓤
   Post = walkOf 𝓤 H A tick.ended stayed (tick.clauses 𝓤 H A at-mem run) .post (((κ, (κ′, tt)), (q, (q′, tt)), bounds, a, vals), tt)
 
   -- the call: what `step` is passed, what it asks, and what is known of its result
   abbrev to : Step 𝓤 H A at-mem run .Ghost
-  to = (((κ, tt), (q, tt), tt, (s, (h, (x, (y, tt)))), (v ∷ [], (mach h ∷ [], (vint w8 (ofZ w8 x) ∷ [], (vint w8 (ofZ w8 y) ∷ [], tt))))), tt)
+  to = (((κ, tt), (q, tt), tt, (s, (h, (x, (y, (z, tt))))), (v ∷ [], (mach h ∷ [], (vint w8 (ofZ w8 x) ∷ [], (vint w8 (ofZ w8 y) ∷ [], (vint w8 (ofZ w8 z) ∷ [], tt)))))), tt)
 
   goes : Is R.the-row h (mach h ∷ []) → ent 𝓤 (⋆ 𝓤 H A (‵ (flft κ q) ∷ ‵ Own ∷ [])) (Step 𝓤 H A at-mem run .pre to)
   goes was =
       qed W (‵ (flft κ q) ∷ ‵ Own ∷ []) ∵ nothing ! $ move ! (1 ∷ 0 ∷ []) $ join ! $
-      nothing ! $ owned ! i8 (Is i8) (sint-makes 𝓤 H A W w8) y _ (refl, y-fits) $ fjoin ! $ owned ! i8 (Is i8) (sint-makes 𝓤 H A W w8) x _ (refl, x-fits) $ fjoin ! $
+      nothing ! $ owned ! i8 (Is i8) (sint-makes 𝓤 H A W w8) z _ (refl, z-fits) $ fjoin ! $ owned ! i8 (Is i8) (sint-makes 𝓤 H A W w8) y _ (refl, y-fits) $ fjoin ! $ owned ! i8 (Is i8) (sint-makes 𝓤 H A W w8) x _ (refl, x-fits) $ fjoin ! $
       owned ! R.the-row (Is R.the-row) (LL.makes R.the-type R′.the-plain 𝓤 H A) h _ was $ fjoin ! $ move ! (2 ∷ 0 ∷ []) $ fjoin ! $ move ! (1 ∷ 0 ∷ []) $ join ! $ frame ! $ done !
 
-  said : (t : Ticked) → ent 𝓤 (ensured 𝓤 H A step.ended (step.clauses 𝓤 H A at-mem run) (κ, tt) (s, (h, (x, (y, tt)))) tt t) (fact 𝓤 (t ≡ found))
-  said t = exE 𝓤 _ (λ ws. snd∗ 𝓤 (sem 𝓤 H A (lasts step.ended (κ, tt) (s, (h, (x, (y, tt)))) ws)) (fact 𝓤 (t ≡ found)))
+  said : (t : Ticked) → ent 𝓤 (ensured 𝓤 H A step.ended (step.clauses 𝓤 H A at-mem run) (κ, tt) (s, (h, (x, (y, (z, tt))))) tt t) (fact 𝓤 (t ≡ found))
+  said t = exE 𝓤 _ (λ ws. snd∗ 𝓤 (sem 𝓤 H A (lasts step.ended (κ, tt) (s, (h, (x, (y, (z, tt))))) ws)) (fact 𝓤 (t ≡ found)))
 
   -- what whoever holds the result knows of its parts
   answer-is : (t : Ticked) (w : Val) → Is T.the-row t (w ∷ []) → Is Z.the-row (t .answer) (mach-answer (t .answer) ∷ [])
@@ -129,55 +129,56 @@ module _ {M : Type 1} (𝓤 : URA M) (H : Heap 𝓤) (A : Atoms 𝓤) (W : Given
       → ent 𝓤 (⋆ 𝓤 H A (‵ (fobs γ (R.the-row .coded .code (t .runner))) ∷ ‵ (fbor κ′ (Body (mem R.the-row) b o γ)) ∷ ‵ (flft κ′ q′) ∷ (‵ (flft κ q) ⊛ ‵ ftrue) ∷ ‵ Own ∷ [])) (Post (mach-answer (t .answer)))
   exits t e is =
       qed W (‵ (fobs γ (R.the-row .coded .code (t .runner))) ∷ ‵ (fbor κ′ (Body (mem R.the-row) b o γ)) ∷ ‵ (flft κ′ q′) ∷ (‵ (flft κ q) ⊛ ‵ ftrue) ∷ ‵ Own ∷ []) ∵
-      suffices ! _ (ends-at 𝓤 H A tick.ended stayed (tick.clauses 𝓤 H A at-mem run) W (((κ, (κ′, tt)), (q, (q′, tt)), bounds, a, vals), tt) (mach-answer (t .answer)) (t .answer) (tt, (t .runner, (tt, (tt, tt)))) (tt, (tt, (tt, (tt, tt))))) $ says ! (record { answers = ap (λ (u : Ticked). u .answer) e; leaves = ap (λ (u : Ticked). u .runner) e }) $
+      suffices ! _ (ends-at 𝓤 H A tick.ended stayed (tick.clauses 𝓤 H A at-mem run) W (((κ, (κ′, tt)), (q, (q′, tt)), bounds, a, vals), tt) (mach-answer (t .answer)) (t .answer) (tt, (t .runner, (tt, (tt, (tt, tt))))) (tt, (tt, (tt, (tt, (tt, tt)))))) $ says ! (record { answers = ap (λ (u : Ticked). u .answer) e; leaves = ap (λ (u : Ticked). u .runner) e }) $
       -- the tokens
       move ! (3 ∷ []) $ split ! $ move ! (4 ∷ 1 ∷ []) $ join ! $ move ! (1 ∷ 0 ∷ []) $ join ! $ frame ! $
       -- [obs; the borrow; what s owns]: what is had of the parameters, and the answer
-      nothing ! $ owned ! i8 (Is i8) (sint-makes 𝓤 H A W w8) y _ (refl, y-fits) $ fjoin ! $ owned ! i8 (Is i8) (sint-makes 𝓤 H A W w8) x _ (refl, x-fits) $ fjoin ! $
+      nothing ! $ owned ! i8 (Is i8) (sint-makes 𝓤 H A W w8) z _ (refl, z-fits) $ fjoin ! $ owned ! i8 (Is i8) (sint-makes 𝓤 H A W w8) y _ (refl, y-fits) $ fjoin ! $ owned ! i8 (Is i8) (sint-makes 𝓤 H A W w8) x _ (refl, x-fits) $ fjoin ! $
       move ! (1 ∷ 2 ∷ []) $ feqI ! (List Val) (vptr b o ∷ []) (vptr b o ∷ []) refl $ fjoin3 ! $ fjoin ! $ move ! (1 ∷ 0 ∷ []) $ fjoin ! $
       owned ! Z.the-row (Is Z.the-row) (EL.makes Z.the-type Z′.the-plain 𝓤 H A) (t .answer) _ is $ move ! (1 ∷ 0 ∷ []) $ frame ! $ done !
 
   module _ (C : Calls 𝓤 H) (Λ : Loops 𝓤 H) (fm : FmC 𝓤 H (W .laws) C) (known : Triple 𝓤 (C #runner·step) (Step 𝓤 H A at-mem run)) where
-    walk : Is (ShrSlice (named 0) κ u8) s (v ∷ []) → ent 𝓤 (onEntry 𝓤 H A tick.signature (κ, (κ′, tt)) (q, (q′, tt)) a vals) (WpFn 𝓤 H C Λ code.function (v ∷ vptr b o ∷ vint w8 (ofZ w8 x) ∷ vint w8 (ofZ w8 y) ∷ []) Post)
+    walk : Is (ShrSlice (named 0) κ u8) s (v ∷ []) → ent 𝓤 (onEntry 𝓤 H A tick.signature (κ, (κ′, tt)) (q, (q′, tt)) a vals) (WpFn 𝓤 H C Λ code.function (v ∷ vptr b o ∷ vint w8 (ofZ w8 x) ∷ vint w8 (ofZ w8 y) ∷ vint w8 (ofZ w8 z) ∷ []) Post)
     walk p =
-        qed W ((‵ (flft κ q) ⊛ ‵ (flft κ′ q′) ⊛ ‵ ftrue) ∷ ‵ (owns (ShrSlice (named 0) κ u8 ∷ MutRef (named 1) κ′ R.the-row ∷ i8 ∷ i8 ∷ []) a vals) ∷ []) ∵ enter ! C Λ code.function (v ∷ vptr b o ∷ vint w8 (ofZ w8 x) ∷ vint w8 (ofZ w8 y) ∷ []) _ $
-        alloc1 ! (λ l₀. alloc1 ! (λ l₁. alloc1 ! (λ l₂. alloc1 ! (λ l₃. alloc1 ! (λ l₄. alloc1 ! (λ l₅. alloc1 ! (λ l₆. alloc0 ! $ params1 ! $
-        pass1 ! (init ! 10 refl (shr-slice-lawful 𝓤 H A W (named 0) κ u8 .typed s (v ∷ []) p .0)) $ pass1 ! (init ! 8 refl (tt, tt)) $
-        pass1 ! (init ! 6 refl (sint-lawful 𝓤 H A W w8 .typed x _ (refl, x-fits) .0)) $ pass1 ! (init ! 4 refl (sint-lawful 𝓤 H A W w8 .typed y _ (refl, y-fits) .0)) $ pass0 ! $
+        qed W ((‵ (flft κ q) ⊛ ‵ (flft κ′ q′) ⊛ ‵ ftrue) ∷ ‵ (owns (ShrSlice (named 0) κ u8 ∷ MutRef (named 1) κ′ R.the-row ∷ i8 ∷ i8 ∷ i8 ∷ []) a vals) ∷ []) ∵ enter ! C Λ code.function (v ∷ vptr b o ∷ vint w8 (ofZ w8 x) ∷ vint w8 (ofZ w8 y) ∷ vint w8 (ofZ w8 z) ∷ []) _ $
+        alloc1 ! (λ l₀. alloc1 ! (λ l₁. alloc1 ! (λ l₂. alloc1 ! (λ l₃. alloc1 ! (λ l₄. alloc1 ! (λ l₅. alloc1 ! (λ l₆. alloc1 ! (λ l₇. alloc0 ! $ params1 ! $
+        pass1 ! (init ! 12 refl (shr-slice-lawful 𝓤 H A W (named 0) κ u8 .typed s (v ∷ []) p .0)) $ pass1 ! (init ! 10 refl (tt, tt)) $
+        pass1 ! (init ! 8 refl (sint-lawful 𝓤 H A W w8 .typed x _ (refl, x-fits) .0)) $ pass1 ! (init ! 6 refl (sint-lawful 𝓤 H A W w8 .typed y _ (refl, y-fits) .0)) $
+        pass1 ! (init ! 4 refl (sint-lawful 𝓤 H A W w8 .typed z _ (refl, z-fits) .0)) $ pass0 ! $
         -- the borrow is opened
-        move ! (15 ∷ []) $ fsplit ! $ move ! (1 ∷ []) $ fsplit ! $ fsplit3 ! $ drop ! $ move ! (18 ∷ []) $ split ! $ move ! (1 ∷ []) $ split ! $ move ! (3 ∷ 4 ∷ 0 ∷ []) $
+        move ! (17 ∷ []) $ fsplit ! $ move ! (1 ∷ []) $ fsplit ! $ fsplit3 ! $ drop ! $ move ! (20 ∷ []) $ split ! $ move ! (1 ∷ []) $ split ! $ move ! (3 ∷ 4 ∷ 0 ∷ []) $
         opens ! tt R.the-row {h = h} b o (λ vs. spelt ! R.the-row (Is R.the-row) (shows 𝓤 H A R.the-row) (LL.vals R.the-type R′.the-laws) (LL.tells R.the-type R′.the-laws) fullShare h vs b o $
         move ! (1 ∷ []) $ peeks ! R.the-row (Is R.the-row) (shows 𝓤 H A R.the-row) h (mach h ∷ []) (λ was. move ! (1 ∷ 0 ∷ []) $
-        -- [the runner's cell; what it owns; the open borrow; obs; auth; true; s's token; what x and y own; what s owns; room for _6; …; room for _5; …; _4; …; _3; …; _2; …; _1; …; room for _0; …]
-        assigns ! (of-opd ! (load ! (from ! (hop ! (look ! 17 refl) (stop !))) (look-raw ! 0 refl))) (from ! (stop !)) (init ! 9 refl (LL.lawful R.the-type R′.the-laws 𝓤 H A W .typed h _ was .0)) $
+        -- [the runner's cell; what it owns; the open borrow; obs; auth; true; s's token; what x, y and z own; what s owns; room for _7; …; room for _6; …; _5; …; _4; …; _3; …; _2; …; _1; …; room for _0; …]
+        assigns ! (of-opd ! (load ! (from ! (hop ! (look ! 19 refl) (stop !))) (look-raw ! 0 refl))) (from ! (stop !)) (init ! 9 refl (LL.lawful R.the-type R′.the-laws 𝓤 H A W .typed h _ was .0)) $
         -- the call, with what s owns had twice
         move ! (8 ∷ []) $ use1 W (‵ Own ⊛ ‵ Own) (shr-slice-copy 𝓤 H A W (named 0) κ u8 .twice s (v ∷ [])) $ split ! $ move ! (8 ∷ 0 ∷ []) $ use2 W (raw (Step 𝓤 H A at-mem run .pre to)) (goes was) $
-        calls-at ! fm (Step 𝓤 H A at-mem run) known to (and-then ! (load ! (from ! (stop !)) (look ! 19 refl)) (and-then ! (load ! (from ! (stop !)) (look ! 9 refl)) (and-then ! (load ! (from ! (stop !)) (look ! 15 refl)) (and-then ! (load ! (from ! (stop !)) (look ! 13 refl)) (no-more !))))) (λ w.
-        use1 W (later (some (λ (t : Ticked). ((‵ (flft κ q) ⊛ ‵ ftrue) ⊛ ‵ (T.the-row .own t (w ∷ []))) ⊛ raw (ensured 𝓤 H A step.ended (step.clauses 𝓤 H A at-mem run) (κ, tt) (s, (h, (x, (y, tt)))) tt t)))) (id⊢ 𝓤 _) $ await ! tt $ pick ! (λ t.
+        calls-at ! fm (Step 𝓤 H A at-mem run) known to (and-then ! (load ! (from ! (stop !)) (look ! 21 refl)) (and-then ! (load ! (from ! (stop !)) (look ! 9 refl)) (and-then ! (load ! (from ! (stop !)) (look ! 17 refl)) (and-then ! (load ! (from ! (stop !)) (look ! 15 refl)) (and-then ! (load ! (from ! (stop !)) (look ! 13 refl)) (no-more !)))))) (λ w.
+        use1 W (later (some (λ (t : Ticked). ((‵ (flft κ q) ⊛ ‵ ftrue) ⊛ ‵ (T.the-row .own t (w ∷ []))) ⊛ raw (ensured 𝓤 H A step.ended (step.clauses 𝓤 H A at-mem run) (κ, tt) (s, (h, (x, (y, (z, tt))))) tt t)))) (id⊢ 𝓤 _) $ await ! tt $ pick ! (λ t.
         split ! $ move ! (1 ∷ []) $ use1 W (raw (fact 𝓤 (t ≡ found))) (said t) $ heard ! (t ≡ found) (λ e. split ! $ move ! (1 ∷ []) $
-        -- [the result; s's token; what s owns; the runner's cell; what it owned; the open borrow; obs; auth; true; what x and y own; _6; …; room for _5; …; _4; …; _3; …; _2; …; _1; …; room for _0; …]
+        -- [the result; s's token; what s owns; the runner's cell; what it owned; the open borrow; obs; auth; true; what x, y and z own; _7; …; room for _6; …; _5; …; _4; …; _3; …; _2; …; _1; …; room for _0; …]
         peeks ! T.the-row (Is T.the-row) (shows 𝓤 H A T.the-row) t (w ∷ []) (λ is.
-        land ! (from ! (stop !)) (init ! 12 refl (LL.lawful T.the-type T′.the-laws 𝓤 H A W .typed t _ is .0)) $ rewrite ! 12 (λ (u : Val). ‵ (fat fullShare T′.mir l₅ 0 u)) (ap only (LL.tells T.the-type T′.the-laws t (w ∷ []) is)) refl $
-        assigns ! (of-opd ! (load ! (from ! (fld ! refl (stop !))) (look-in ! 12 (sub ! 1 refl (whole !))))) (from ! (hop ! (look ! 18 refl) (stop !))) (store-raw ! 3 refl (LL.lawful R.the-type R′.the-laws 𝓤 H A W .typed (t .runner) _ (runner-is t w is) .0)) $
-        assigns ! (of-opd ! (load ! (from ! (fld ! refl (stop !))) (look-in ! 12 (sub ! 0 refl (whole !))))) (from ! (stop !)) (init ! 22 refl (EL.lawful Z.the-type Z′.the-laws 𝓤 H A W tt .typed (t .answer) _ (answer-is t w is) .0)) $
+        land ! (from ! (stop !)) (init ! 12 refl (LL.lawful T.the-type T′.the-laws 𝓤 H A W .typed t _ is .0)) $ rewrite ! 12 (λ (u : Val). ‵ (fat fullShare T′.mir l₆ 0 u)) (ap only (LL.tells T.the-type T′.the-laws t (w ∷ []) is)) refl $
+        assigns ! (of-opd ! (load ! (from ! (fld ! refl (stop !))) (look-in ! 12 (sub ! 1 refl (whole !))))) (from ! (hop ! (look ! 20 refl) (stop !))) (store-raw ! 3 refl (LL.lawful R.the-type R′.the-laws 𝓤 H A W .typed (t .runner) _ (runner-is t w is) .0)) $
+        assigns ! (of-opd ! (load ! (from ! (fld ! refl (stop !))) (look-in ! 12 (sub ! 0 refl (whole !))))) (from ! (stop !)) (init ! 24 refl (EL.lawful Z.the-type Z′.the-laws 𝓤 H A W tt .typed (t .answer) _ (answer-is t w is) .0)) $
         -- the borrow is closed at the runner that was stored
         owned ! R.the-row (Is R.the-row) (LL.makes R.the-type R′.the-plain 𝓤 H A) (t .runner) _ (runner-is t w is) $ move ! (4 ∷ 0 ∷ 6 ∷ 7 ∷ 8 ∷ []) $ closes ! tt R.the-row (t .runner) (mach (t .runner) ∷ []) b o $
-        returns ! (look ! 21 refl) $ forget ! 9 refl $ forget ! 11 refl $ forget ! 13 refl $ forget ! 15 refl $ forget ! 17 refl $ forget ! 19 refl $ forget ! 21 refl $
-        move ! (21 ∷ 22 ∷ []) $ free1 ! $ move ! (19 ∷ 20 ∷ []) $ free1 ! $ move ! (17 ∷ 18 ∷ []) $ free1 ! $ move ! (15 ∷ 16 ∷ []) $ free1 ! $ move ! (13 ∷ 14 ∷ []) $ free1 ! $ move ! (11 ∷ 12 ∷ []) $ free1 ! $ move ! (9 ∷ 10 ∷ []) $ free1 ! $ free0 ! $
-        keep ! (0 ∷ 1 ∷ 2 ∷ 4 ∷ 5 ∷ []) $ by ! (exits t e (answer-is t w is)))))))))))))))
+        returns ! (look ! 23 refl) $ forget ! 9 refl $ forget ! 11 refl $ forget ! 13 refl $ forget ! 15 refl $ forget ! 17 refl $ forget ! 19 refl $ forget ! 21 refl $ forget ! 23 refl $
+        move ! (23 ∷ 24 ∷ []) $ free1 ! $ move ! (21 ∷ 22 ∷ []) $ free1 ! $ move ! (19 ∷ 20 ∷ []) $ free1 ! $ move ! (17 ∷ 18 ∷ []) $ free1 ! $ move ! (15 ∷ 16 ∷ []) $ free1 ! $ move ! (13 ∷ 14 ∷ []) $ free1 ! $ move ! (11 ∷ 12 ∷ []) $ free1 ! $ move ! (9 ∷ 10 ∷ []) $ free1 ! $ free0 ! $
+        keep ! (0 ∷ 1 ∷ 2 ∷ 4 ∷ 5 ∷ []) $ by ! (exits t e (answer-is t w is))))))))))))))))
 
 module _ {M : Type 1} (𝓤 : URA M) (H : Heap 𝓤) (A : Atoms 𝓤) (W : Given 𝓤 H A) (mem : Memory → SProp 𝓤) (run : Routine → Fun 𝓤) where
   tick-walks : (C : Calls 𝓤 H) (Λ : Loops 𝓤 H) → FmC 𝓤 H (W .laws) C → Triple 𝓤 (C #runner·step) (Step 𝓤 H A mem run) → Walks 𝓤 H A tick.ended stayed (WpFn 𝓤 H C Λ code.function) (tick.clauses 𝓤 H A mem run)
   tick-walks C Λ fm known = walked 𝓤 H A tick.ended stayed (tick.clauses 𝓤 H A mem run) (WpFn 𝓤 H C Λ code.function)
-      (λ κs. (slice-vals, (ptr-vals, (sint-vals w8, (sint-vals w8, tt))))) (λ κs. (shr-slice-tells (named 0) (κs .0) u8, (mut-tells (named 1) (κs .1 .0) R.the-row, (sint-tells w8, (sint-tells w8, tt)))))
+      (λ κs. (slice-vals, (ptr-vals, (sint-vals w8, (sint-vals w8, (sint-vals w8, tt)))))) (λ κs. (shr-slice-tells (named 0) (κs .0) u8, (mut-tells (named 1) (κs .1 .0) R.the-row, (sint-tells w8, (sint-tells w8, (sint-tells w8, tt))))))
       (λ κs qs bounds a g are. via 𝓤 _ (fst∗ 𝓤 _ (emp 𝓤))
-      (walk 𝓤 H A W mem run (κs .0) (κs .1 .0) (qs .0) (qs .1 .0) bounds (a .0) (a .1 .0 .ptr .0) (a .1 .0 .ptr .1) (a .1 .0 .name) (a .1 .0 .now) (a .1 .1 .0) (a .1 .1 .1 .0) (are .1 .1 .0 .1) (are .1 .1 .1 .0 .1) C Λ fm known (are .0)))
+      (walk 𝓤 H A W mem run (κs .0) (κs .1 .0) (qs .0) (qs .1 .0) bounds (a .0) (a .1 .0 .ptr .0) (a .1 .0 .ptr .1) (a .1 .0 .name) (a .1 .0 .now) (a .1 .1 .0) (a .1 .1 .1 .0) (a .1 .1 .1 .1 .0) (are .1 .1 .0 .1) (are .1 .1 .1 .0 .1) (are .1 .1 .1 .1 .0 .1) C Λ fm known (are .0)))
 
 tick-meets : {M : Type 1} (𝓤 : URA M) (H : Heap 𝓤) (A : Atoms 𝓤) → Given 𝓤 H A → (mem : Memory → SProp 𝓤) (run : Routine → Fun 𝓤) (𝓣 : Tables 𝓤 H) → Triple 𝓤 (𝓣 .C #runner·step) (Step 𝓤 H A mem run)
     → Meets 𝓤 H A tick.signature (WpFn 𝓤 H (𝓣 .C) (𝓣 .Λ) code.function) (tick.spec 𝓤 H A mem run)
 tick-meets 𝓤 H A W mem run 𝓣 known =
     walk-meets 𝓤 H A tick.ended stayed W
-    (goes-none-slice 𝓤 H A W 2 (0 ∷ []) tt (plain (λ _. u8)) yes, (goes-ref 𝓤 H A W 2 1 tt (plain (λ _. R.the-row)), (goes-none 𝓤 H A W 2 (λ _. i8) yes (λ κs x f. refl), (goes-none 𝓤 H A W 2 (λ _. i8) yes (λ κs x f. refl), tt))))
+    (goes-none-slice 𝓤 H A W 2 (0 ∷ []) tt (plain (λ _. u8)) yes, (goes-ref 𝓤 H A W 2 1 tt (plain (λ _. R.the-row)), (goes-none 𝓤 H A W 2 (λ _. i8) yes (λ κs x f. refl), (goes-none 𝓤 H A W 2 (λ _. i8) yes (λ κs x f. refl), (goes-none 𝓤 H A W 2 (λ _. i8) yes (λ κs x f. refl), tt)))))
     (tick.clauses 𝓤 H A mem run) (WpFn 𝓤 H (𝓣 .C) (𝓣 .Λ) code.function) (WpFn-mono 𝓤 H (W .laws) 𝓣 code.function) (tick-walks 𝓤 H A W mem run (𝓣 .C) (𝓣 .Λ) (fmOf 𝓤 H (W .laws) 𝓣) known)
 
 pub tick-spec : {M : Type 1} → stated.statement M

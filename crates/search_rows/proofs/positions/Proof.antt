@@ -1,7 +1,7 @@
 -- `positions` meets its contract: a design that isn't refused is counted.
 use mathlib.Core.Path.{sym, _∙_}
 use borrow.Author.Needs.{needs}
-use Rattle.refusals.proofs.CountedBytes.{accepted-counts}
+use Rattle.refusals.proofs.WellFormed.{accepted-counts}
 use Rattle.search_rows.proofs.positions.Statement.{statement}
 use Rattle.search_rows.proofs.positions.Tie as tie
 

@@ -1,16 +1,19 @@
-//! Designs: the sides, the formulas and the rules, in blocks.
+//! Designs: the sides, the formulas and the rules, in five blocks, or in four where the
+//! third side has none.
 
 use std::collections::BTreeSet;
 use std::ops::RangeInclusive;
 
 use super::{
-    headed, in_range, seal, sealed, word, BLOCK_BYTES, CHECKED_BYTES, DESIGN_BYTES, FORMULA_BYTES,
-    HEADER_BYTES, MOST_STATES, PLACES, PROPOSITIONS, SIDES, STATE_BYTES,
+    headed, in_range, seal, sealed, word, BLOCK_BYTES, CHECKED_BYTES, FIVE_BLOCKS, FORMULA_BYTES,
+    FOUR_BLOCKS, HEADER_BYTES, MOST_STATES, PLACES, PROPOSITIONS, SIDES, STATE_BYTES,
 };
 use crate::refusal::{self, demand};
 
+/// The kind of the third side's block.
+pub const THIRD_KIND: u8 = 6;
 /// The kinds of the sides' blocks, in their order.
-const SIDE_KINDS: [u8; SIDES] = [1, 2];
+const SIDE_KINDS: [u8; SIDES] = [1, 2, THIRD_KIND];
 /// The kind of the block that holds the formulas, behind those of the sides.
 const FORMULA_KIND: u8 = 3;
 /// The kind of the block that holds the rules, behind that of the formulas.
@@ -90,7 +93,7 @@ pub enum Formula {
 /// A design: the sides, the formulas, and the numbers of those that are rules.
 #[derive(Clone, Debug, PartialEq, Eq)]
 pub struct Design {
-    /// The states of each side: the kernel's, then the host's.
+    /// The states of each side: the kernel's, the host's, then the third side's.
     pub sides: [Vec<State>; SIDES],
     /// The formulas by number.
     pub formulas: Vec<Formula>,
@@ -120,13 +123,24 @@ impl Design {
             .collect()
     }
 
-    /// The design as sealed blocks.
+    /// The design as sealed blocks: four where its third side is idle, else five.
     ///
     /// Nothing is checked beyond what the places hold, so that designs which a
     /// reader must refuse can be written too.
     pub fn to_bytes(&self) -> Vec<u8> {
-        let mut bytes = Vec::with_capacity(DESIGN_BYTES);
-        for (kind, states) in SIDE_KINDS.into_iter().zip(&self.sides) {
+        let idle = self.sides[SIDES - 1] == idle_side();
+        self.with_side_blocks(if idle { SIDES - 1 } else { SIDES })
+    }
+
+    /// The design as five sealed blocks, whatever its third side is.
+    pub fn to_five_blocks(&self) -> Vec<u8> {
+        self.with_side_blocks(SIDES)
+    }
+
+    /// The design as sealed blocks, of which so many are sides'.
+    fn with_side_blocks(&self, sides: usize) -> Vec<u8> {
+        let mut bytes = Vec::new();
+        for (kind, states) in SIDE_KINDS.into_iter().zip(&self.sides).take(sides) {
             bytes.extend(state_block(kind, states));
         }
         bytes.extend(formula_block(&self.formulas));
@@ -134,6 +148,11 @@ impl Design {
         seal(&mut bytes);
         bytes
     }
+}
+
+/// The side that has no block where a design has four: one ticking state without labels.
+pub fn idle_side() -> Vec<State> {
+    vec![State { label: 0, transitions: vec![Transition { event: 0, target: 0 }] }]
 }
 
 /// The number of positions of a design.
@@ -145,19 +164,11 @@ pub fn positions(design: &Design) -> u128 {
 
 /// Reads a design, or declines with 1 to 8.
 pub fn read_design(bytes: &[u8]) -> Result<Design, u8> {
-    demand(bytes.len() == DESIGN_BYTES, refusal::LENGTH)?;
-    let blocks: Vec<&[u8]> = bytes.chunks(BLOCK_BYTES).collect();
-    demand(blocks.iter().all(|block| sealed(block)), refusal::CHECK)?;
-    let kinds = SIDE_KINDS.into_iter().chain([FORMULA_KIND, RULE_KIND]);
-    let headers = kinds.clone().zip(&blocks).all(|(kind, block)| headed_right(kind, block));
-    demand(headers, refusal::HEADER)?;
-    let counts = kinds.zip(&blocks).all(|(kind, block)| limits(kind).contains(&block[1]));
-    demand(counts, refusal::COUNT)?;
-
-    let (side_blocks, others) = blocks.split_at(SIDES);
+    let blocks = design_blocks(bytes)?;
+    let (side_blocks, others) = blocks.split_at(blocks.len() - 2);
     let sides: Option<Vec<Vec<State>>> =
         side_blocks.iter().map(|block| read_states(block)).collect();
-    let sides = sides.ok_or(refusal::TRANSITIONS)?;
+    let mut sides = sides.ok_or(refusal::TRANSITIONS)?;
     let of_a_kind =
         |side: &Vec<State>| side.iter().enumerate().all(|(own, s)| s.kind(own).is_some());
     demand(sides.iter().all(of_a_kind), refusal::STATE_KIND)?;
@@ -167,14 +178,34 @@ pub fn read_design(bytes: &[u8]) -> Result<Design, u8> {
     let named = rules.iter().all(|&rule| usize::from(rule) < formulas.len());
     demand(named, refusal::FORMULA)?;
 
-    let sides = sides.try_into().expect("there is a block for each side");
-    let design = Design { sides, formulas, rules };
-    let spare = used_bytes(&design)
+    let spare = used_bytes(&sides, &formulas, &rules)
         .iter()
         .zip(&blocks)
         .all(|(used, block)| (0..BLOCK_BYTES).all(|at| used.contains(&at) || block[at] == 0));
     demand(spare, refusal::UNUSED)?;
-    Ok(design)
+
+    // Where the third side has no block, it is idle.
+    sides.resize_with(SIDES, idle_side);
+    let sides = sides.try_into().expect("there are as many as sides");
+    Ok(Design { sides, formulas, rules })
+}
+
+/// The blocks of a design: those of the sides, then the formulas' and the rules'; or it
+/// declines with 1 to 4.
+fn design_blocks(bytes: &[u8]) -> Result<Vec<&[u8]>, u8> {
+    let side_kinds = match bytes.len() {
+        FOUR_BLOCKS => &SIDE_KINDS[..SIDES - 1],
+        FIVE_BLOCKS => &SIDE_KINDS[..],
+        _ => return Err(refusal::LENGTH),
+    };
+    let blocks: Vec<&[u8]> = bytes.chunks(BLOCK_BYTES).collect();
+    demand(blocks.iter().all(|block| sealed(block)), refusal::CHECK)?;
+    let kinds = side_kinds.iter().copied().chain([FORMULA_KIND, RULE_KIND]);
+    let headers = kinds.clone().zip(&blocks).all(|(kind, block)| headed_right(kind, block));
+    demand(headers, refusal::HEADER)?;
+    let counts = kinds.zip(&blocks).all(|(kind, block)| limits(kind).contains(&block[1]));
+    demand(counts, refusal::COUNT)?;
+    Ok(blocks)
 }
 
 /// Whether a block has this kind, and 0 as its first record.
@@ -242,8 +273,8 @@ fn read_formula(number: usize, record: &[u8]) -> Option<Formula> {
     })
 }
 
-/// For each block, the places of the bytes that a design uses.
-fn used_bytes(design: &Design) -> Vec<BTreeSet<usize>> {
+/// For each block, the places of the bytes that are used.
+fn used_bytes(sides: &[Vec<State>], formulas: &[Formula], rules: &[u8]) -> Vec<BTreeSet<usize>> {
     let frame = || (0..HEADER_BYTES).chain(CHECKED_BYTES..BLOCK_BYTES);
     let of_side = |states: &Vec<State>| {
         let records = states.iter().enumerate().flat_map(|(number, state)| {
@@ -252,13 +283,13 @@ fn used_bytes(design: &Design) -> Vec<BTreeSet<usize>> {
         });
         frame().chain(records).collect()
     };
-    let formulas = design.formulas.iter().enumerate().flat_map(|(number, &formula)| {
+    let formulas = formulas.iter().enumerate().flat_map(|(number, &formula)| {
         let at = HEADER_BYTES + FORMULA_BYTES * number;
         at..at + 1 + operands(formula)
     });
-    let rules = HEADER_BYTES..HEADER_BYTES + design.rules.len();
+    let rules = HEADER_BYTES..HEADER_BYTES + rules.len();
     let others = [frame().chain(formulas).collect(), frame().chain(rules).collect()];
-    design.sides.iter().map(of_side).chain(others).collect()
+    sides.iter().map(of_side).chain(others).collect()
 }
 
 /// How many operands a formula has.

@@ -8,7 +8,9 @@ mod design;
 mod record;
 
 pub use blocks::{read_blocks, write_blocks};
-pub use design::{positions, read_design, Design, Formula, State, StateKind, Transition};
+pub use design::{
+    idle_side, positions, read_design, Design, Formula, State, StateKind, Transition, THIRD_KIND,
+};
 pub use record::{converter_bytes, read_converter_memory, read_record, record_count, Link, Record};
 
 /// Bytes in a block.
@@ -17,22 +19,25 @@ pub const BLOCK_BYTES: usize = 512;
 pub const CHECKED_BYTES: usize = 510;
 /// Where a block's records begin.
 pub const HEADER_BYTES: usize = 4;
-/// The sides of a design: the kernel, then the host.
-pub const SIDES: usize = 2;
-/// Bytes in a design: a block for each side, one for the formulas, one for the rules.
-pub const DESIGN_BYTES: usize = (SIDES + 2) * BLOCK_BYTES;
+/// The sides of a design: the kernel, the host, then the third side.
+pub const SIDES: usize = 3;
+/// Bytes in a design that has a block for each side, one for the formulas and one for
+/// the rules.
+pub const FIVE_BLOCKS: usize = 5 * BLOCK_BYTES;
+/// Bytes in a design that has no block for the third side.
+pub const FOUR_BLOCKS: usize = 4 * BLOCK_BYTES;
 /// Bytes in a state record.
 pub const STATE_BYTES: usize = 20;
 /// Bytes in a formula record.
 pub const FORMULA_BYTES: usize = 4;
 /// Transition places in a state and in a converter record.
 pub const PLACES: usize = 8;
-/// Where the transition places of a converter record begin. The states that it names
-/// stand before them, then the count, then what is left is zero.
-pub const FIRST_PLACE: usize = 4;
-/// Where the next record stands in a transition place. The events of the sides stand
-/// before it, and a zero if they are odd in number.
-pub const NEXT_AT: usize = SIDES.next_multiple_of(2);
+/// Where the transition places of a converter record begin: before them stand the states
+/// that it names, then the count.
+pub const FIRST_PLACE: usize = SIDES + 1;
+/// Where the next record stands in a transition place of a converter record: before it
+/// stand the events of the sides, then a zero.
+pub const NEXT_AT: usize = SIDES + 1;
 /// Bytes in a transition place of a converter record.
 pub const PLACE_BYTES: usize = NEXT_AT + 2;
 /// Bytes in a converter record.

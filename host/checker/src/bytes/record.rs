@@ -79,13 +79,12 @@ pub fn read_converter_memory(bytes: &[u8]) -> Result<Vec<Record>, u8> {
 pub fn read_record(bytes: &[u8], records: usize) -> Result<Record, u8> {
     let count = usize::from(bytes[SIDES]);
     demand((1..=PLACES).contains(&count), refusal::RECORD)?;
-    let (head, places) = bytes.split_at(FIRST_PLACE);
-    let (used, unused) = places.split_at(PLACE_BYTES * count);
-    demand(blank(&head[SIDES + 1..]) && blank(unused), refusal::RECORD)?;
+    let (used, unused) = bytes[FIRST_PLACE..RECORD_BYTES].split_at(PLACE_BYTES * count);
     let used = used.chunks(PLACE_BYTES);
-    demand(used.clone().all(|place| blank(&place[SIDES..NEXT_AT])), refusal::RECORD)?;
+    let zeros = used.clone().all(|place| blank(&place[SIDES..NEXT_AT]));
+    demand(zeros && blank(unused), refusal::RECORD)?;
 
-    let states: [u8; SIDES] = from_fn(|side| head[side]);
+    let states: [u8; SIDES] = from_fn(|side| bytes[side]);
     demand(states.iter().all(|&state| usize::from(state) < MOST_STATES), refusal::RECORD)?;
     let links: Vec<Link> = used.map(read_link).collect();
     let events: BTreeSet<[i8; SIDES]> = links.iter().map(|link| link.events).collect();

@@ -1,8 +1,12 @@
 //! The designs of two sides in tests/data/two_sided.txt, and what was said of each.
+//! Their third side is one ticking state without labels, and their converters have zeros
+//! for it.
 
 use std::str::FromStr;
 
-use checker::bytes::{Design, Formula, Link, Record, State, Transition};
+use checker::bytes::{Design, Formula, Link, Record, State, Transition, SIDES};
+
+use crate::samples::{self, with_zeros};
 
 /// One design of the file.
 pub struct Kept {
@@ -34,7 +38,7 @@ fn read(text: &str) -> Kept {
     let rules = line("rules").split_whitespace().map(number).collect();
     let sides = [side(line("kernel")), side(line("host"))];
     Kept {
-        design: Design { sides, formulas, rules },
+        design: samples::design(sides, formulas, rules),
         positions: number(line("positions")),
         found: match line("search") {
             "found" => true,
@@ -96,14 +100,14 @@ fn formula(text: &str) -> Formula {
 fn record(text: &str) -> Record {
     let link = |text: &str| {
         let (events, next) = apart(text, ">");
-        Link { events: of_both(events), next: number(next) }
+        Link { events: of_sides(events), next: number(next) }
     };
     let (states, links) = apart(text, ":");
-    Record { states: of_both(states), links: links.split_whitespace().map(link).collect() }
+    Record { states: of_sides(states), links: links.split_whitespace().map(link).collect() }
 }
 
-/// A number for each of the two sides.
-fn of_both<T: FromStr>(text: &str) -> [T; 2] {
+/// A number for each side.
+fn of_sides<T: FromStr + Copy + Default>(text: &str) -> [T; SIDES] {
     let (kernel, host) = apart(text, ",");
-    [number(kernel), number(host)]
+    with_zeros([number(kernel), number(host)])
 }

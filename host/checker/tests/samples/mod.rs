@@ -1,12 +1,18 @@
 //! The designs and converters of the specification's rows, and calls that hold
 //! every lent byte against what the specification says of it.
+//!
+//! Most rows have two sides. Beside them the third side is one ticking state without
+//! labels, and their converters have zeros for it.
 
 // Each test file uses some of these.
 #![allow(dead_code)]
 
+use std::array::from_fn;
+
 use checker::bytes::{
     positions, read_converter_memory, Design, Formula, Link, Record, State, Transition, SIDES,
 };
+use checker::joined::proposition;
 
 /// A state from the bits of its label word and its transitions.
 pub fn state(bits: &[u8], transitions: &[(i8, u8)]) -> State {
@@ -19,21 +25,40 @@ pub fn state(bits: &[u8], transitions: &[(i8, u8)]) -> State {
     }
 }
 
+/// What is said of the first sides, with zeros for the others.
+pub fn with_zeros<T: Copy + Default, const N: usize>(first: [T; N]) -> [T; SIDES] {
+    from_fn(|side| first.get(side).copied().unwrap_or_default())
+}
+
+/// A design whose first sides are these. Each of the others is one ticking state without
+/// labels.
+pub fn design<const N: usize>(
+    first: [Vec<State>; N],
+    formulas: Vec<Formula>,
+    rules: Vec<u8>,
+) -> Design {
+    let ticking = vec![state(&[], &[(0, 0)])];
+    let sides = from_fn(|side| first.get(side).unwrap_or(&ticking).clone());
+    Design { sides, formulas, rules }
+}
+
 /// One ticking state on each side, with these label words.
 pub fn ticking(labels: [u16; SIDES]) -> [Vec<State>; SIDES] {
     labels.map(|label| vec![State { label, ..state(&[], &[(0, 0)]) }])
 }
 
-/// A converter record from the states that it names and its transitions.
-pub fn record(states: [u8; SIDES], links: &[([i8; SIDES], u16)]) -> Record {
-    Record { states, links: links.iter().map(|&(events, next)| Link { events, next }).collect() }
+/// A converter record from the states that it names and its transitions, of the first
+/// sides.
+pub fn record<const N: usize>(states: [u8; N], links: &[([i8; N], u16)]) -> Record {
+    let link = |&(events, next): &([i8; N], u16)| Link { events: with_zeros(events), next };
+    Record { states: with_zeros(states), links: links.iter().map(link).collect() }
 }
 
 /// The handshake pair H.
 pub fn handshake(formulas: Vec<Formula>, rules: Vec<u8>) -> Design {
     let handshake = vec![state(&[0], &[(0, 0), (-1, 1)]), state(&[1], &[(0, 1), (-2, 0)])];
     let serial = vec![state(&[2], &[(0, 0), (1, 1)]), state(&[3], &[(2, 0)])];
-    Design { sides: [handshake, serial], formulas, rules }
+    design([handshake, serial], formulas, rules)
 }
 
 /// Converter F.
@@ -95,13 +120,13 @@ pub fn ticking_in_turn() -> Design {
         Formula::And(3, 4),
         Formula::Always(5),
     ];
-    Design { sides: [turning, vec![state(&[], &[(0, 0)])]], formulas, rules: vec![6] }
+    design([turning], formulas, vec![6])
 }
 
 /// One ticking state beside h0, h1 and h2.
 pub fn two_inputs(formulas: Vec<Formula>, rules: Vec<u8>) -> Design {
     let host = vec![state(&[], &[(1, 1), (2, 2)]), state(&[0], &[(0, 1)]), state(&[1], &[(0, 2)])];
-    Design { sides: [vec![state(&[], &[(0, 0)])], host], formulas, rules }
+    design([vec![state(&[], &[(0, 0)])], host], formulas, rules)
 }
 
 /// AX 16, then AX 17.
@@ -111,7 +136,7 @@ pub fn next_sixteen_next_seventeen() -> Vec<Formula> {
 
 /// The sides of lock and menu, which only tick, from each state to the other: k0 and
 /// m1 have bit 3.
-fn lock_and_menu_sides() -> [Vec<State>; SIDES] {
+fn lock_and_menu_sides() -> [Vec<State>; 2] {
     [
         vec![state(&[3], &[(0, 1)]), state(&[], &[(0, 0)])],
         vec![state(&[], &[(0, 1)]), state(&[3], &[(0, 0)])],
@@ -121,7 +146,7 @@ fn lock_and_menu_sides() -> [Vec<State>; SIDES] {
 /// Lock and menu: 3 and AX 19.
 pub fn lock_and_menu() -> Design {
     let formulas = vec![Formula::Proposition(3), Formula::Proposition(19), Formula::Next(1)];
-    Design { sides: lock_and_menu_sides(), formulas, rules: vec![0, 2] }
+    design(lock_and_menu_sides(), formulas, vec![0, 2])
 }
 
 /// The same with a rule that takes the label of one side for the other's: 19, or AX 3.
@@ -129,8 +154,8 @@ pub fn mistaken_labels() -> [Design; 2] {
     let host_first = vec![Formula::Proposition(19)];
     let kernel_next = vec![Formula::Proposition(3), Formula::Next(0)];
     [
-        Design { sides: lock_and_menu_sides(), formulas: host_first, rules: vec![0] },
-        Design { sides: lock_and_menu_sides(), formulas: kernel_next, rules: vec![1] },
+        design(lock_and_menu_sides(), host_first, vec![0]),
+        design(lock_and_menu_sides(), kernel_next, vec![1]),
     ]
 }
 
@@ -148,7 +173,7 @@ pub fn hub(formulas: Vec<Formula>, rules: Vec<u8>) -> Design {
         state(&[1], &[(0, 0)]),
         state(&[2], &[(0, 0)]),
     ];
-    Design { sides: [vec![state(&[], &[(0, 0)])], hub], formulas, rules }
+    design([vec![state(&[], &[(0, 0)])], hub], formulas, rules)
 }
 
 /// Two rings of sixteen states, each of which ticks on or reads 1 and stays.
@@ -177,7 +202,146 @@ pub fn rings(last: Formula) -> Design {
         Formula::Or(13, 12),
         last,
     ];
-    Design { sides: [ring(0), ring(1)], formulas, rules: vec![3, 8, 11, 15] }
+    design([ring(0), ring(1)], formulas, vec![3, 8, 11, 15])
+}
+
+/// The viewer: a host that reads 1 and shows a picture (16) for one tick, beside this third
+/// side. Every path shows pictures again and again, and none while 32 holds.
+pub fn viewer(third: Vec<State>) -> Design {
+    let host = vec![state(&[], &[(0, 0), (1, 1)]), state(&[0], &[(0, 0)])];
+    let formulas = vec![
+        Formula::True,
+        Formula::Proposition(16),
+        Formula::Until(0, 1),
+        Formula::Always(2),
+        Formula::NotProposition(16),
+        Formula::NotProposition(32),
+        Formula::Or(4, 5),
+        Formula::Always(6),
+    ];
+    let kernel = vec![state(&[], &[(0, 0)])];
+    Design { sides: [kernel, host, third], formulas, rules: vec![3, 7] }
+}
+
+/// The thumbnails: v0 waits, or sends 1 and goes to v1, where 32 holds; v1 sends 2 and
+/// goes back, or it may wait there too.
+pub fn thumbnails(may_wait: bool) -> Vec<State> {
+    let back: &[(i8, u8)] = if may_wait { &[(0, 1), (-2, 0)] } else { &[(-2, 0)] };
+    vec![state(&[], &[(0, 0), (-1, 1)]), state(&[0], back)]
+}
+
+/// One state, with these events.
+pub fn one_state(events: &[i8]) -> Vec<State> {
+    let transitions: Vec<(i8, u8)> = events.iter().map(|&event| (event, 0)).collect();
+    vec![state(&[], &transitions)]
+}
+
+/// A converter of one record, whose transitions have these events.
+pub fn one_record(events: &[[i8; SIDES]]) -> Vec<Record> {
+    let links: Vec<([i8; SIDES], u16)> = events.iter().map(|&events| (events, 0)).collect();
+    vec![record([0; SIDES], &links)]
+}
+
+/// A kernel and a third side that send or tick, beside a host that reads 1 or 2.
+pub fn four_choices() -> Design {
+    let sides = [one_state(&[0, -1]), one_state(&[1, 2]), one_state(&[-3, 0])];
+    Design { sides, formulas: vec![], rules: vec![] }
+}
+
+/// Events that a record for the four choices may have, each with whether it is matched.
+pub fn events_at_four_choices() -> Vec<(Vec<[i8; SIDES]>, bool)> {
+    let right = [[0, -1, 0], [1, -2, 0], [0, -2, 3], [1, -1, 3]];
+    let mut tried = vec![(right.to_vec(), true)];
+    for at in 0..4 {
+        // One choice is left out.
+        let mut fewer = right.to_vec();
+        fewer.remove(at);
+        tried.push((fewer, false));
+        // The other input at a choice: beside the first, in its place, in another's place.
+        let mut other = right[at];
+        other[1] = -3 - other[1];
+        tried.push(([&right[..], &[other]].concat(), false));
+        for place in 0..4 {
+            let mut exchanged = right.to_vec();
+            exchanged[place] = other;
+            tried.push((exchanged, place == at));
+        }
+    }
+    tried
+}
+
+/// Three sides that send or tick.
+pub fn three_delayed() -> Design {
+    let sides = [one_state(&[0, -1]), one_state(&[-2, 0]), one_state(&[0, -3])];
+    Design { sides, formulas: vec![], rules: vec![] }
+}
+
+/// Events that a record for the three delayed sides may have, each with whether it is
+/// matched: all eight, and these without one.
+pub fn events_of_three_delayed() -> Vec<(Vec<[i8; SIDES]>, bool)> {
+    let moves: Vec<[i8; SIDES]> =
+        (0..8).map(|bits: i8| [bits & 1, 2 * (bits >> 1 & 1), 3 * (bits >> 2)]).collect();
+    let without = |left_out: usize| {
+        let mut fewer = moves.clone();
+        fewer.remove(left_out);
+        (fewer, false)
+    };
+    [(moves.clone(), true)].into_iter().chain((0..8).map(without)).collect()
+}
+
+/// Three rings of sixteen states, each of which ticks on or reads 1 and stays. State 15
+/// has bit 0, 1 or 2 of its side: propositions 0, 17 and 34. Four formulas are kept: 2, 3,
+/// 7 and 10.
+pub fn three_rings(last: Formula) -> Design {
+    let ring = |bit: usize| {
+        let bits = |own: u8| if own == 15 { vec![bit as u8] } else { vec![] };
+        (0..16).map(|own: u8| state(&bits(own), &[(0, (own + 1) % 16), (1, own)])).collect()
+    };
+    let formulas = vec![
+        Formula::True,
+        Formula::Proposition(0),
+        Formula::Until(0, 1),
+        Formula::Always(2),
+        Formula::NotProposition(0),
+        Formula::NotProposition(17),
+        Formula::Or(4, 5),
+        Formula::Always(6),
+        Formula::NotProposition(34),
+        Formula::Or(5, 8),
+        last,
+    ];
+    Design { sides: from_fn(ring), formulas, rules: vec![3, 7, 10] }
+}
+
+/// Every order of three sides.
+pub const ORDERS: [[usize; SIDES]; 6] =
+    [[0, 1, 2], [0, 2, 1], [1, 0, 2], [1, 2, 0], [2, 0, 1], [2, 1, 0]];
+
+/// The design with its sides in another order: each of these is the side that comes there.
+/// Formulas name the labels by their new sides.
+pub fn reordered(design: &Design, order: [usize; SIDES]) -> Design {
+    let place = |side: usize| order.iter().position(|&from| from == side).unwrap();
+    let renamed = |p: u8| proposition(place(usize::from(p) / 16), usize::from(p) % 16);
+    let formula = |&formula: &Formula| match formula {
+        Formula::Proposition(p) => Formula::Proposition(renamed(p)),
+        Formula::NotProposition(p) => Formula::NotProposition(renamed(p)),
+        other => other,
+    };
+    Design {
+        sides: order.map(|from| design.sides[from].clone()),
+        formulas: design.formulas.iter().map(formula).collect(),
+        rules: design.rules.clone(),
+    }
+}
+
+/// A converter for the sides in another order.
+pub fn reordered_converter(converter: &[Record], order: [usize; SIDES]) -> Vec<Record> {
+    let link = |link: &Link| Link { events: order.map(|from| link.events[from]), next: link.next };
+    let record = |record: &Record| Record {
+        states: order.map(|from| record.states[from]),
+        links: record.links.iter().map(link).collect(),
+    };
+    converter.iter().map(record).collect()
 }
 
 /// Bytes that aren't zero and that differ from their neighbours.
@@ -194,7 +358,7 @@ pub fn judged(design: &[u8], converter: &[u8], work_length: usize) -> Result<(),
     let answer = checker::judge(design, converter, &mut work);
     let mut expected = pattern(work_length);
     if matches!(answer, Ok(()) | Err(14 | 15)) {
-        expected[..16 * (converter.len() / 36)].fill(0);
+        expected[..16 * (converter.len() / 52)].fill(0);
     }
     assert_eq!(work, expected, "work after {answer:?}");
     answer
@@ -202,14 +366,14 @@ pub fn judged(design: &[u8], converter: &[u8], work_length: usize) -> Result<(),
 
 /// Judges with work to spare.
 pub fn judged_well(design: &Design, converter: &[u8]) -> Result<(), u8> {
-    judged(&design.to_bytes(), converter, 16 * (converter.len() / 36) + BEYOND)
+    judged(&design.to_bytes(), converter, 16 * (converter.len() / 52) + BEYOND)
 }
 
 /// Searches with the demanded lengths and some bytes beyond, and holds every
 /// lent byte against the specification. A converter found is matched and keeps the rules.
 pub fn searched(design: &Design) -> Result<Vec<Record>, u8> {
     let positions = usize::try_from(positions(design)).unwrap();
-    let (table_length, work_length) = (36 * positions + BEYOND, 16 * positions + BEYOND);
+    let (table_length, work_length) = (52 * positions + BEYOND, 16 * positions + BEYOND);
     let (mut table, mut work) = (pattern(table_length), pattern(work_length));
     let answer = checker::search(&design.to_bytes(), &mut table, &mut work);
     if matches!(answer, Ok(_) | Err(16)) {
@@ -219,10 +383,10 @@ pub fn searched(design: &Design) -> Result<Vec<Record>, u8> {
     } else {
         assert_eq!(work, pattern(work_length), "work after {answer:?}");
     }
-    let written = 36 * answer.unwrap_or(0);
+    let written = 52 * answer.unwrap_or(0);
     assert_eq!(table[written..], pattern(table_length)[written..], "table after {answer:?}");
     answer?;
-    assert!(written <= 36 * positions);
+    assert!(written <= 52 * positions);
     assert_eq!(judged_well(design, &table[..written]), Ok(()), "the converter found");
     read_converter_memory(&table[..written])
 }

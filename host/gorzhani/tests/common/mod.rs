@@ -4,7 +4,7 @@
 // Each test file uses some of these.
 #![allow(dead_code)]
 
-use checker::bytes::{positions, read_blocks, read_design, write_blocks, Design};
+use checker::bytes::{positions, read_blocks, read_design, write_blocks, Design, SIDES};
 use checker::generate::{any_design, design, ruled_design, Random, Shape};
 use gorzhani::{Refused, Runner, BLOCK, CELL, RECORD};
 
@@ -129,6 +129,17 @@ pub fn header(name: &str) -> usize {
     value.parse().unwrap_or_else(|_| panic!("{name} = {value} is no number"))
 }
 
+/// How many bytes the records of a block take, where these are the blocks of a design.
+pub fn record_bytes(design: &[u8], block: usize) -> usize {
+    let header = &design[BLOCK * block..];
+    let each = match header[0] {
+        3 => 4,
+        4 => 1,
+        _ => 20,
+    };
+    each * usize::from(header[1])
+}
+
 /// The positions of the design that these bytes spell, at most `most`.
 pub fn size(bytes: &[u8], most: usize) -> usize {
     read_design(bytes).map_or(4, |design| positions(&design).min(most as u128) as usize)
@@ -239,23 +250,29 @@ pub fn read_agrees(file: &[u8], length: usize) -> u8 {
     copying_agrees((gorzhani::read, read_blocks), file, length, RECORD)
 }
 
+/// A runner of the library as the second checker has it.
+pub fn checkers_runner(runner: Runner) -> checker::tick::Runner {
+    let Runner { record, first, second, third } = runner;
+    checker::tick::Runner { record: usize::from(record), delivered: [first, second, third] }
+}
+
+/// A runner of the second checker as the library has it.
+pub fn librarys_runner(runner: checker::tick::Runner) -> Runner {
+    let record = u16::try_from(runner.record).expect("there are at most 65,536 records");
+    let [first, second, third] = runner.delivered;
+    Runner { record, first, second, third }
+}
+
 /// One tick by both, from the same runner.
-pub fn tick_agrees(converter: &[u8], runner: &mut Runner, shown: [i8; 2]) -> u8 {
+pub fn tick_agrees(converter: &[u8], runner: &mut Runner, shown: [i8; SIDES]) -> u8 {
     let lent = Lent::holding(converter);
     let first = GuardedRunner { before: [0xA5; 16], runner: *runner, after: [0x5A; 16] };
     let mut guarded = first;
     let answer = gorzhani::tick(lent.part(), &mut guarded.runner, shown);
-    let mut other = checker::tick::Runner {
-        record: usize::from(runner.record),
-        delivered: [runner.first, runner.second],
-    };
+    let mut other = checkers_runner(*runner);
     let expected = checker::tick(converter, &mut other, shown);
     assert_eq!(number(answer), expected.err().unwrap_or(0), "{converter:?} {runner:?} {shown:?}");
-    *runner = Runner {
-        record: u16::try_from(other.record).expect("there are at most 65,536 records"),
-        first: other.delivered[0],
-        second: other.delivered[1],
-    };
+    *runner = librarys_runner(other);
     assert!(lent.untouched() && guarded == GuardedRunner { runner: *runner, ..first });
     number(answer)
 }

@@ -37,7 +37,7 @@ passed b r e n = e ∙ not-false r n
 failed : (b r : Bool) → b ≡ r → not r ≡ true → b ≡ false
 failed b r e n = e ∙ not-true r n
 
--- its count is at most fourteen
+-- its count is at most nine
 most : (c : tie.After-read-byte) → c .read-byte .result ≤ block-records
 most c =
     let a = c .before .before .before .before .before .before .before .before .before .args in

@@ -6,7 +6,7 @@ use lib.ListN.{take, drop}
 use Rattle.model.specs.Judged.{all}
 use Rattle.layout.specs.Sizes.{place-count, count-at, places-at, gap-at, move-bytes}
 use Rattle.layout.specs.Bytes.{byte, part, all-zero}
-use Rattle.layout.specs.Unused.{unused, unused-places}
+use Rattle.layout.specs.Unused.{places-behind, unused}
 use Rattle.refusals.proofs.ZeroBytes.{nonzero-first, zero-first}
 use borrow.Author.Needs.{needs}
 use Rattle.refusals.proofs.blocks.state_unused_right.Statement.{statement}
@@ -37,7 +37,7 @@ returns-2 c =
     let n = byte (a .s .now) (a .at + count-at) in
     let none : move-bytes * (place-count - n) ≡ 0 = omega (arith, c .before .read-byte2 .ensures) in
     sym
-    (zero-first (byte (a .s .now) (a .at + gap-at)) (unused-places move-bytes (a .s .now) (a .at)) (sym (c .before .before .before .read-byte .ensures) ∙ c .before .before .if1 .left)
+    (zero-first (byte (a .s .now) (a .at + gap-at)) (places-behind n move-bytes (a .s .now) (a .at)) (sym (c .before .before .before .read-byte .ensures) ∙ c .before .before .if1 .left)
     ∙ ap (λ m. all-zero (take m (drop (a .at + places-at + move-bytes * n) (a .s .now)))) none)
 
 add-is-zero : tie.Need-add-is-zero

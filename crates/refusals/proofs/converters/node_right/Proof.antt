@@ -1,28 +1,39 @@
--- `converters::node_right` meets its contract. The invariant: the first k transitions are right, and `made` has them.
+-- `converters::node_right` meets its contract. The invariant: the first k transitions are right, and no events stand twice among them.
 use mathlib.Core.Path.{_≡_, sym, ap, subst, _∙_}
 use mathlib.Core.Bool.{true, false≢true}
-use mathlib.Core.Logic.{⊎-elim}
-use Prim.Native.Nat.{ℕ, _+_, _-_, _≤_, _<_}
+use Prim.Native.Nat.{_-_, _≤_, _<_}
 use native.Mathlib.Omega.{arith}
 use borrow.Author.Needs.{needs}
 use borrow.Author.Tests.{not-true, not-false, lt-ltb, ltb-true}
 use lib.Dec.{ltb}
 use lib.ListN.{length, getD}
 use Rattle.layout.specs.Sizes.{most-states}
-use Rattle.layout.specs.declared.records.Outcome.the-variants.{Added}
-use Rattle.layout.specs.Records.{no-transition, node-of}
+use Rattle.layout.specs.Records.{node-of}
 use Rattle.layout.proofs.Tables.{all-true, all-at}
 use Rattle.layout.proofs.ConverterBytes.{names-of, edges-of}
 use Rattle.layout.proofs.Nodes.{node-fails, node-passes}
-use Rattle.layout.proofs.Made.{Made, adds, right-at, made-none, made-more, made-once, made-all}
+use Rattle.layout.proofs.Made.{RightTo, right-at, right-none, right-more, right-once, right-all}
 use Rattle.refusals.proofs.converters.node_right.Statement.{statement}
 use Rattle.refusals.proofs.converters.node_right.Tie as tie
 
 abbrev Inv-loop : tie.InvT-loop
-Inv-loop n r count made₀ k₀ made k = (k ≤ count) × Made r n made k
+Inv-loop n r names count k₀ k = (k ≤ count) × RightTo r n k
 
 abbrev μ-loop : tie.MeasureT-loop
-μ-loop n r count made₀ k₀ made k = count - k
+μ-loop n r names count k₀ k = count - k
+
+-- the points of the walk: the names seen to be right, and in a turn of the loop a transition seen, and looked for among those before it
+abbrev start : tie.After-names-right Inv-loop μ-loop → tie.Start Inv-loop μ-loop
+start c = c .before .before
+
+abbrev tested : tie.At-loop Inv-loop μ-loop → tie.After-names-right Inv-loop μ-loop
+tested c = c .before .before .before .before
+
+abbrev turn : tie.After-transition-right Inv-loop μ-loop → tie.At-loop Inv-loop μ-loop
+turn c = c .before .before .before
+
+abbrev seen-before : tie.After-has Inv-loop μ-loop → tie.After-transition-right Inv-loop μ-loop
+seen-before c = c .before .before .before .before
 
 names-right-requires : tie.Need-names-right-requires Inv-loop μ-loop
 names-right-requires c κs = search needs
@@ -47,13 +58,8 @@ returns-3 c =
     let s = c .before .before .before .before .before in
     sym (node-fails (s .args .n) (node-of (s .args .t1)) (λ w. absurd (omega (arith, edges-of (s .args .t1), w .at-most-eight))))
 
-new-requires : tie.Need-new-requires Inv-loop μ-loop
-new-requires c κs = search needs
-
 loop-holds : tie.Need-loop-holds Inv-loop μ-loop
-loop-holds c =
-    let s = c .before .before .before .before .before .before in
-    (search needs, subst (λ x. Made (s .args .t1) (s .args .n) x 0) (sym (c .new .ensures)) (made-none (s .args .t1) (s .args .n) (s .args .t1 .names)))
+loop-holds c = (search needs, right-none _ _)
 
 mul-t : tie.Need-mul-t Inv-loop μ-loop
 mul-t c = search needs
@@ -66,27 +72,23 @@ transition-right-requires c κs = search needs
 
 returns-4 : tie.Need-returns-4 Inv-loop μ-loop
 returns-4 c =
-    let s = c .before .before .before .before .before .before .before .before .before .before .before in
-    let k = c .before .before .before .before .loop .k in
-    sym (node-fails (s .args .n) (node-of (s .args .t1)) (λ w.
-    false≢true (sym (sym (c .before .transition-right .ensures) ∙ not-true (c .before .transition-right .result) (c .if4 .taken))
-    ∙ right-at (s .args .t1) (s .args .n) w k (omega arith))))
+    let seen = c .before in
+    let a = start (tested (turn seen)) .args in
+    sym (node-fails (a .n) (node-of (a .t1)) (λ w.
+    false≢true (sym (sym (seen .transition-right .ensures) ∙ not-true (seen .transition-right .result) (c .if4 .taken)) ∙ right-at (a .t1) (a .n) w (turn seen .loop .k) (omega arith))))
 
-add-requires : tie.Need-add-requires Inv-loop μ-loop
-add-requires c κs = search needs
+cast-seen : tie.Need-cast-seen Inv-loop μ-loop
+cast-seen c = search needs
 
-enum-told : tie.Need-enum-told Inv-loop μ-loop
-enum-told c = search needs
+has-requires : tie.Need-has-requires Inv-loop μ-loop
+has-requires c κs = search needs
 
 returns-5 : tie.Need-returns-5 Inv-loop μ-loop
 returns-5 c =
-    let s = c .before .before .before .before .before .before .before .before .before .before .before .before .before in
-    let l = c .before .before .before .before .before .before .loop in
-    let t = getD (s .args .t1 .places) (l .k) no-transition in
-    sym (node-fails (s .args .n) (node-of (s .args .t1)) (λ w.
-    let e : c .before .add .result .outcome ≡ Added =
-    ap (λ a. a .outcome) (c .before .add .ensures ∙ adds (l .made) t (omega (arith, l .inv .1 .counted)) (made-once (s .args .t1) (s .args .n) (l .made) (l .k) (l .inv .1) (omega arith) w)) in
-    ⊎-elim (λ p. let z : _≡_ {A = ℕ} 0 1 = rw e at p in omega arith) (λ p. let z : _≡_ {A = ℕ} 0 2 = rw e at p in omega arith) (c .match .keys2)))
+    let looked = c .before in
+    let at = turn (seen-before looked) in
+    let a = start (tested at) .args in
+    sym (node-fails (a .n) (node-of (a .t1)) (λ w. false≢true (sym (sym (c .if5 .taken) ∙ looked .has .ensures ∙ right-once (a .t1) (a .n) (at .loop .k) (omega arith) w))))
 
 add-k : tie.Need-add-k Inv-loop μ-loop
 add-k c = search needs
@@ -96,25 +98,23 @@ loop-less c = search needs
 
 loop-again : tie.Need-loop-again Inv-loop μ-loop
 loop-again c =
-    let s = c .before .before .before .before .before .before .before .before .before .before .before .before .before .before .before in
-    let l = c .before .before .before .before .before .before .before .before .loop in
-    let a = c .before .before .before in (
-      search needs,
-      subst (λ x. Made (s .args .t1) (s .args .n) (x .left) (l .k + 1)) (sym (a .add .ensures))
-          (made-more (s .args .t1) (s .args .n) (l .made) (l .k) (l .inv .1) (omega arith)
-          (sym (a .before .before .transition-right .ensures) ∙ not-false (a .before .before .transition-right .result) (a .before .if4 .left))
-          (sym (ap (λ x. x .outcome) (a .add .ensures)) ∙ c .before .enum-told .given .1)),
-    )
+    let looked = c .before in
+    let seen = seen-before looked in
+    let at = turn seen in
+    let a = start (tested at) .args in
+    let right = sym (seen .transition-right .ensures) ∙ not-false (seen .transition-right .result) (looked .before .before .before .if4 .left) in
+    (search needs, right-more (a .t1) (a .n) (at .loop .k) (at .loop .inv .1) right (sym (looked .has .ensures) ∙ c .if5 .left))
 
 returns-6 : tie.Need-returns-6 Inv-loop μ-loop
 returns-6 c =
-    let s = c .before .before .before .before .before .before .before .before in
+    let names = tested (c .before) in
+    let a = start names .args in
     let l = c .before .loop in
-    let n : c .before .before .before .before .before .before .names-right .result ≡ true = not-false (c .before .before .before .before .before .before .names-right .result) (c .before .before .before .before .before .if1 .left) in
-    let e : l .k ≡ s .args .t1 .count = omega arith in
-    sym (node-passes (s .args .n) (node-of (s .args .t1))
-    (made-all (s .args .t1) (s .args .n) (l .made) (subst (Made (s .args .t1) (s .args .n) (l .made)) e (l .inv .1))
-    (λ i h. ltb-true (getD (s .args .t1 .names) i 0) most-states (all-at (λ x. ltb x most-states) 0 (s .args .t1 .names) (sym (c .before .before .before .before .before .before .names-right .ensures) ∙ n) i h))
+    let below : names .names-right .result ≡ true = not-false (names .names-right .result) (c .before .before .before .before .if1 .left) in
+    let e : l .k ≡ a .t1 .count = omega arith in
+    sym (node-passes (a .n) (node-of (a .t1))
+    (right-all (a .t1) (a .n) (subst (RightTo (a .t1) (a .n)) e (l .inv .1))
+    (λ i h. ltb-true (getD (a .t1 .names) i 0) most-states (all-at (λ x. ltb x most-states) 0 (a .t1 .names) (sym (names .names-right .ensures) ∙ below) i h))
     (omega arith) (omega arith)))
 
 pub node-right-spec : {M : Type 1} → statement M
@@ -128,14 +128,13 @@ node-right-spec =
     cast-count
     returns-2
     returns-3
-    new-requires
     loop-holds
     mul-t
     element-copy-out-t
     transition-right-requires
     returns-4
-    add-requires
-    enum-told
+    cast-seen
+    has-requires
     returns-5
     add-k
     loop-less

@@ -1,59 +1,91 @@
 -- `design_tests::headers_right` meets its contract. The invariant: each of the first i blocks has a right header.
-use mathlib.Core.Path.{_≡_, sym, _∙_}
+use mathlib.Core.Path.{_≡_, sym, ap, _∙_}
 use mathlib.Core.Bool.{true}
-use Prim.Native.Nat.{ℕ, _-_, _≤_, _<_}
+use mathlib.Core.List.{List}
+use Prim.Native.Nat.{ℕ, _+_, _-_, _≤_, _<_}
 use native.Mathlib.Nat.{not-suc-le-zero}
 use native.Mathlib.Omega.{arith}
 use borrow.Author.Count.{below-more}
 use borrow.Author.Tests.{not-true, not-false}
-use borrow.Author.Needs.{needs}
+use Rattle.layout.specs.Sizes.{other-blocks}
 use Rattle.layout.specs.Blocks.{kernel, design-blocks}
+use Rattle.layout.specs.Designs.{held}
+use Rattle.refusals.specs.Counted.{asked-of, block}
 use Rattle.refusals.specs.Refusals.{header-right}
-use Rattle.refusals.proofs.DesignBlocks.{block, stands}
+use Rattle.refusals.proofs.DesignBlocks.{blocks-long, block-at, block-first}
 use Rattle.layout.proofs.Tables.{all-true, all-false}
+use borrow.Author.Needs.{needs}
 use Rattle.refusals.proofs.design_tests.headers_right.Statement.{statement}
 use Rattle.refusals.proofs.design_tests.headers_right.Tie as tie
 
 abbrev Inv-loop : tie.InvT-loop
-Inv-loop s i₀ i = (i ≤ 4) × ((j : ℕ) → j < i → header-right s (block j) ≡ true)
+Inv-loop s n i₀ i = (i ≤ held s + other-blocks) × ((j : ℕ) → j < i → header-right s (block (held s) j) ≡ true)
 
 abbrev μ-loop : tie.MeasureT-loop
-μ-loop s i₀ i = 4 - i
+μ-loop s n i₀ i = held s + other-blocks - i
+
+-- the bytes, at the loop
+abbrev bytes : tie.At-loop Inv-loop μ-loop → List ℕ
+bytes c = c .before .before .before .args .s .now
+
+there : (c : tie.In-loop Inv-loop μ-loop) → c .before .loop .i < held (bytes (c .before)) + other-blocks
+there c = omega (arith, c .before .before .held .ensures)
+
+-- what is asked of block i
+asks : (c : tie.After-header-right Inv-loop μ-loop) → c .before .asked-at .result ≡ asked-of (block (held (bytes (c .before .before .before))) (c .before .before .before .loop .i))
+asks c = c .before .asked-at .ensures ∙ ap (λ n. asked-of (block n (c .before .before .before .loop .i))) (c .before .before .before .before .held .ensures)
 
 -- what the call says of block i
-tested : (c : tie.After-header-right Inv-loop μ-loop) → c .header-right .result ≡ header-right (c .before .before .before .before .args .s .now) (block (c .before .before .loop .i))
-tested c = let st = stands (c .before .before .loop .i) (omega arith) in c .header-right .ensures (block (c .before .before .loop .i)) (st .place) (st .kind) (st .first)
+tested : (c : tie.After-header-right Inv-loop μ-loop) → c .header-right .result ≡ header-right (bytes (c .before .before .before)) (block (held (bytes (c .before .before .before))) (c .before .before .before .loop .i))
+tested c =
+    let n = held (bytes (c .before .before .before)) in
+    let loop = c .before .before .before in
+    let few = loop .before .before .before .pre .at-most in
+    let i = c .before .before .before .loop .i in
+    let h = there (c .before .before) in
+    c .header-right .ensures (block n i) (block-at n few i h) (sym (ap (λ a. a .kind) (asks c))) (block-first n few i h)
+
+held-requires : tie.Need-held-requires Inv-loop μ-loop
+held-requires c κs = search needs
 
 loop-holds : tie.Need-loop-holds Inv-loop μ-loop
 loop-holds c = (search needs, λ j h. absurd (not-suc-le-zero h))
 
-mul-header-right : tie.Need-mul-header-right Inv-loop μ-loop
-mul-header-right c = search needs
+add-loop : tie.Need-add-loop Inv-loop μ-loop
+add-loop c = omega (arith, c .before .held .ensures, c .before .before .before .pre .at-most)
 
-add-header-right : tie.Need-add-header-right Inv-loop μ-loop
-add-header-right c = search needs
+mul-header-right : tie.Need-mul-header-right Inv-loop μ-loop
+mul-header-right c = omega (arith, there c, c .before .before .before .before .pre .at-most)
+
+asked-at-requires : tie.Need-asked-at-requires Inv-loop μ-loop
+asked-at-requires c κs = (omega (arith, c .before .before .held .ensures, c .before .before .before .before .pre .at-most), omega arith)
 
 header-right-requires : tie.Need-header-right-requires Inv-loop μ-loop
-header-right-requires c κs = search needs
+header-right-requires c κs = let start = c .before .before .before .before .before in omega (arith, there (c .before), start .pre .at-most, start .pre .long)
 
 returns : tie.Need-returns Inv-loop μ-loop
 returns c =
-    let s = c .before .before .before .before .before .args .s .now in
-    sym (all-false (header-right s) kernel design-blocks (c .before .before .before .loop .i) (omega arith) (sym (tested (c .before)) ∙ not-true (c .before .header-right .result) (c .if1 .taken)))
+    let loop = c .before .before .before .before in
+    let n = held (bytes loop) in
+    let few = loop .before .before .before .pre .at-most in
+    sym
+    (all-false (header-right (bytes loop)) kernel (design-blocks n) (loop .loop .i) (omega (arith, there (c .before .before .before), blocks-long n few))
+    (sym (tested (c .before)) ∙ not-true (c .before .header-right .result) (c .if1 .taken)))
 
 add-i : tie.Need-add-i Inv-loop μ-loop
-add-i c = search needs
+add-i c = omega (arith, there (c .before .before .before))
 
 loop-less : tie.Need-loop-less Inv-loop μ-loop
-loop-less c = search needs
+loop-less c = omega (arith, there (c .before .before .before))
 
 loop-again : tie.Need-loop-again Inv-loop μ-loop
-loop-again c = (search needs, below-more _ _ (c .before .before .before .loop .inv .1) (sym (tested (c .before)) ∙ not-false (c .before .header-right .result) (c .if1 .left)))
+loop-again c = (omega (arith, there (c .before .before .before)), below-more _ _ (c .before .before .before .before .loop .inv .1) (sym (tested (c .before)) ∙ not-false (c .before .header-right .result) (c .if1 .left)))
 
 returns-2 : tie.Need-returns-2 Inv-loop μ-loop
 returns-2 c =
-    let s = c .before .before .before .args .s .now in
-    sym (all-true (header-right s) kernel design-blocks (λ j h. c .before .loop .inv .1 j (omega arith)))
+    let s = bytes (c .before) in
+    let few = c .before .before .before .before .pre .at-most in
+    sym (all-true (header-right s) kernel (design-blocks (held s)) (λ j h. c .before .loop .inv .1 j (omega (arith, c .before .before .held .ensures, blocks-long (held s) few))))
 
 pub headers-right-spec : {M : Type 1} → statement M
 headers-right-spec =
@@ -61,9 +93,11 @@ headers-right-spec =
     (tie.spec
     Inv-loop
     μ-loop
+    held-requires
     loop-holds
+    add-loop
     mul-header-right
-    add-header-right
+    asked-at-requires
     header-right-requires
     returns
     add-i

@@ -8,6 +8,7 @@ use borrow.Author.Count.{below-more}
 use borrow.Author.Tests.{not-true, not-false}
 use mathlib.Core.List.{[]}
 use lib.ListN.{length}
+use Rattle.layout.specs.Sizes.{side-count}
 use Rattle.layout.specs.Designs.{design, side}
 use Rattle.layout.specs.Tests.{side-right, kinds-right}
 use Rattle.layout.proofs.DesignBytes.{sides-length}
@@ -18,10 +19,10 @@ use Rattle.refusals.proofs.design_tests.sides_kinds_right.Statement.{st
 use Rattle.refusals.proofs.design_tests.sides_kinds_right.Tie as tie
 
 abbrev Inv-loop : tie.InvT-loop
-Inv-loop s i₀ i = (i ≤ 2) × ((j : ℕ) → j < i → kinds-right (side (design s) j) ≡ true)
+Inv-loop s i₀ i = (i ≤ side-count) × ((j : ℕ) → j < i → kinds-right (side (design s) j) ≡ true)
 
 abbrev μ-loop : tie.MeasureT-loop
-μ-loop s i₀ i = 2 - i
+μ-loop s i₀ i = side-count - i
 
 loop-holds : tie.Need-loop-holds Inv-loop μ-loop
 loop-holds c = (search needs, λ j h. absurd (not-suc-le-zero h))

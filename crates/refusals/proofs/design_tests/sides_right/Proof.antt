@@ -7,6 +7,7 @@ use native.Mathlib.Omega.{arith}
 use borrow.Author.Count.{below-more}
 use borrow.Author.Tests.{not-true, not-false}
 use mathlib.Core.List.{[]}
+use Rattle.layout.specs.Sizes.{side-count}
 use Rattle.layout.specs.Designs.{design, side}
 use Rattle.layout.specs.Tests.{side-right}
 use Rattle.layout.proofs.DesignBytes.{sides-length}
@@ -16,10 +17,10 @@ use Rattle.refusals.proofs.design_tests.sides_right.Statement.{statemen
 use Rattle.refusals.proofs.design_tests.sides_right.Tie as tie
 
 abbrev Inv-loop : tie.InvT-loop
-Inv-loop s i₀ i = (i ≤ 2) × ((j : ℕ) → j < i → side-right (side (design s) j) ≡ true)
+Inv-loop s i₀ i = (i ≤ side-count) × ((j : ℕ) → j < i → side-right (side (design s) j) ≡ true)
 
 abbrev μ-loop : tie.MeasureT-loop
-μ-loop s i₀ i = 2 - i
+μ-loop s i₀ i = side-count - i
 
 loop-holds : tie.Need-loop-holds Inv-loop μ-loop
 loop-holds c = (search needs, λ j h. absurd (not-suc-le-zero h))

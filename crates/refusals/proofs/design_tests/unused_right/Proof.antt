@@ -3,6 +3,7 @@ use mathlib.Core.Path.{sym, ap, _∙_}
 use mathlib.Core.Bool.{_&&_}
 use borrow.Author.Tests.{not-true, not-false}
 use Rattle.layout.specs.Blocks.{formulas, rules}
+use Rattle.layout.specs.Designs.{held}
 use Rattle.refusals.specs.Refusals.{unused-right}
 use Rattle.refusals.proofs.DesignBlocks.{sides-first}
 use borrow.Author.Needs.{needs}
@@ -14,33 +15,40 @@ sides-unused-right-requires c κs = search needs
 
 returns : tie.Need-returns
 returns c =
-    let p = unused-right (c .before .before .before .args .s .now) in
-    sym (sides-first p ∙ ap (λ b. b && (p formulas && p rules)) (sym (c .before .sides-unused-right .ensures) ∙ not-true (c .before .sides-unused-right .result) (c .if1 .taken)))
+    let start = c .before .before .before in
+    let n = held (start .args .s .now) in
+    let p = unused-right (start .args .s .now) in
+    sym (sides-first n p ∙ ap (λ b. b && (p (formulas n) && p (rules n))) (sym (c .before .sides-unused-right .ensures) ∙ not-true (c .before .sides-unused-right .result) (c .if1 .taken)))
 
 formulas-unused-right-requires : tie.Need-formulas-unused-right-requires
 formulas-unused-right-requires c κs = search needs
 
 returns-2 : tie.Need-returns-2
 returns-2 c =
-    let p = unused-right (c .before .before .before .before .before .args .s .now) in
+    let start = c .before .before .before .before .before in
+    let n = held (start .args .s .now) in
+    let p = unused-right (start .args .s .now) in
     let e = sym (c .before .before .before .sides-unused-right .ensures) ∙ not-false (c .before .before .before .sides-unused-right .result) (c .before .before .if1 .left) in
     sym
-    (sides-first p
-    ∙ ap (λ b. b && (p formulas && p rules)) e
-    ∙ ap (λ b. b && p rules) (sym (c .before .formulas-unused-right .ensures) ∙ not-true (c .before .formulas-unused-right .result) (c .if2 .taken)))
+    (sides-first n p
+    ∙ ap (λ b. b && (p (formulas n) && p (rules n))) e
+    ∙ ap (λ b. b && p (rules n)) (sym (c .before .formulas-unused-right .ensures) ∙ not-true (c .before .formulas-unused-right .result) (c .if2 .taken)))
 
 rules-unused-right-requires : tie.Need-rules-unused-right-requires
 rules-unused-right-requires c κs = search needs
 
 returns-3 : tie.Need-returns-3
 returns-3 c =
-    let p = unused-right (c .before .before .before .before .before .before .args .s .now) in
+    let sides = c .before .before .before .before in
+    let start = sides .before .before in
+    let n = held (start .args .s .now) in
+    let p = unused-right (start .args .s .now) in
     let e = sym (c .before .before .before .before .sides-unused-right .ensures) ∙ not-false (c .before .before .before .before .sides-unused-right .result) (c .before .before .before .if1 .left) in
     c .rules-unused-right .ensures
     ∙ sym
-    (sides-first p
-    ∙ ap (λ b. b && (p formulas && p rules)) e
-    ∙ ap (λ b. b && p rules) (sym (c .before .before .formulas-unused-right .ensures) ∙ not-false (c .before .before .formulas-unused-right .result) (c .before .if2 .left)))
+    (sides-first n p
+    ∙ ap (λ b. b && (p (formulas n) && p (rules n))) e
+    ∙ ap (λ b. b && p (rules n)) (sym (c .before .before .formulas-unused-right .ensures) ∙ not-false (c .before .before .formulas-unused-right .result) (c .before .if2 .left)))
 
 pub unused-right-spec : {M : Type 1} → statement M
 unused-right-spec =
