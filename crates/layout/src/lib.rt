@@ -2,8 +2,6 @@
 pub mod designs;
 pub mod events;
 pub mod formulas;
-pub mod joint;
-pub mod joints;
 pub mod ranges;
 pub mod records;
 pub mod sizes;
