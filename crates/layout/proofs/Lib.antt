@@ -9,4 +9,5 @@ pub mod RecordBytes
 pub mod FormulaRecords
 pub mod ConverterBytes
 pub mod Nodes
+pub mod Sealed
 pub mod Made

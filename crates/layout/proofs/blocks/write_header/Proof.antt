@@ -1,14 +1,14 @@
--- `files::write_header` meets its contract: two stores and a word, one behind the other.
+-- `blocks::write_header` meets its contract: two stores and a word, one behind the other.
 use mathlib.Core.Path.{refl, ap, _∙_}
 use mathlib.Core.List.{[], _∷_}
 use Prim.Native.Nat.{_+_}
 use native.Mathlib.Omega.{arith}
 use lib.ListN.{length-set}
 use Rattle.layout.specs.Bytes.{put, word-bytes}
 use Rattle.layout.proofs.Put.{put-pair, put-behind}
 use borrow.Author.Needs.{needs}
-use Rattle.files.proofs.writer.write_header.Statement.{statement}
-use Rattle.files.proofs.writer.write_header.Tie as tie
+use Rattle.layout.proofs.blocks.write_header.Statement.{statement}
+use Rattle.layout.proofs.blocks.write_header.Tie as tie
 
 slice-write-s : tie.Need-slice-write-s
 slice-write-s c = search needs

@@ -1,10 +1,10 @@
 -- `blocks::seal` meets its contract.
 use mathlib.Core.Path.{ap, _∙_}
 use Prim.Native.Nat.{_+_}
 use Rattle.layout.specs.Bytes.{put, word-bytes}
 use borrow.Author.Needs.{needs}
-use Rattle.row_parts.proofs.blocks.seal.Statement.{statement}
-use Rattle.row_parts.proofs.blocks.seal.Tie as tie
+use Rattle.layout.proofs.blocks.seal.Statement.{statement}
+use Rattle.layout.proofs.blocks.seal.Tie as tie
 
 check-of-requires : tie.Need-check-of-requires
 check-of-requires c κs = search needs

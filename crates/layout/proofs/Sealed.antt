@@ -54,3 +54,17 @@ module _ (kind count first : ℕ) (rs : List ℕ) (fits : length rs ≤ 506) whe
         ∙ ap (λ l. put (put bs at (unsealed kind count first rs)) (at + 510) (word-bytes (check l)))
         (ap (part (put bs at (unsealed kind count first rs)) at) (sym length-unsealed) ∙ part-put (unsealed kind count first rs) bs at (omega (arith, length-unsealed)))
         ∙ put-behind (unsealed kind count first rs) (word-bytes (check (unsealed kind count first rs))) bs at 510 length-unsealed (omega arith)
+
+    -- the steps that write a block: header, records, zeros and check
+    pub block-put : (n : ℕ) (headed copied filled done : List ℕ) → length rs ≡ n
+        → headed ≡ put bs at header
+        → copied ≡ put headed (at + 4) rs
+        → filled ≡ put copied (at + 4 + n) (replicate (506 - n) 0)
+        → done ≡ put filled (at + 510) (word-bytes (check (part filled at 510)))
+        → done ≡ put bs at (sealed kind count first rs)
+    block-put n headed copied filled done e e1 e2 e3 e4 =
+        let all : filled ≡ put-all =
+        e3
+        ∙ ap (λ l. put l (at + 4 + n) (replicate (506 - n) 0)) (e2 ∙ ap (λ l. put l (at + 4) rs) e1)
+        ∙ ap (λ m. put (put (put bs at header) (at + 4) rs) (at + 4 + m) (replicate (506 - m) 0)) (sym e) in
+        e4 ∙ ap (λ l. put l (at + 510) (word-bytes (check (part l at 510)))) all ∙ put-sealed
