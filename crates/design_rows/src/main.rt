@@ -1,7 +1,7 @@
 // Runs the rows of the specification on the reading of a design. For each it writes a line: what was read, and the number of the refusal, which is 0 for none.
 ghost use Prim.Native.Nat.{_<_, _≤_};
 ghost use lib.ListN.{length};
-use row_parts::blocks;
+use layout::blocks;
 use row_parts::designs;
 use row_parts::lines;
 use row_parts::tables;

@@ -2,7 +2,7 @@
 // number of a refusal. What is lent for a result is 170 everywhere at first, so that a byte that was written shows; a second line says whether it is as it was.
 ghost use Prim.Native.Nat.{_<_, _≤_};
 ghost use lib.ListN.{length};
-use row_parts::blocks;
+use layout::blocks;
 use row_parts::lines;
 use row_parts::tables;
 

@@ -20,7 +20,7 @@ use Rattle.refusals.specs.Refusals.{record-right, records-right}
 use Rattle.layout.proofs.Tables.{every-at, entry}
 use Rattle.layout.proofs.Parts.{length-part, byte-part}
 use Rattle.layout.proofs.Pieces.{pieces-more}
-use Rattle.files.proofs.Sealed.{length-unsealed, length-sealed}
+use Rattle.layout.proofs.Sealed.{length-unsealed, length-sealed}
 use Rattle.files.proofs.SealedBytes.{unsealed-kind, unsealed-count, unsealed-low, unsealed-high, unsealed-record, unsealed-zero, sealed-byte, sealed-low, sealed-high}
 use Rattle.layout.proofs.Tables.{all-at}
 use Rattle.refusals.proofs.Accepted.{Accepted}

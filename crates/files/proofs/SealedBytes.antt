@@ -7,7 +7,7 @@ use lib.ListN.{length, take, replicate, getD-replicate, List·getD-append}
 use lib.Seq.{getD-append-add, take-at}
 use Rattle.layout.specs.Bytes.{byte, check, word-bytes}
 use Rattle.layout.specs.Blocks.{unsealed, sealed}
-use Rattle.files.proofs.Sealed.{length-unsealed}
+use Rattle.layout.proofs.Sealed.{length-unsealed}
 
 module _ (kind count first : ℕ) (rs : List ℕ) (fits : length rs ≤ 506) where
   abbrev u : List ℕ

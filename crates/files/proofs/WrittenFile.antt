@@ -1,23 +1,23 @@
 -- The file of a converter that isn't refused, block by block.
 use mathlib.Core.Path.{_≡_, refl, sym, ap, ap₂, _∙_}
-use mathlib.Core.List.{List, _∷_, _++_, flatten}
+use mathlib.Core.List.{List, _++_, flatten}
 use Prim.Native.Nat.{ℕ, zero, suc, _+_, _-_, _*_, _≤_, _<_, min}
 use native.Mathlib.Numerals.{add-one}
 use native.Mathlib.Decide.{ℕ-discrete, decLt}
 use native.Mathlib.Nat.{not-suc-le-zero}
 use native.Mathlib.Omega.{arith}
-use lib.ListN.{length, take, drop, replicate, length-drop, length-append}
+use lib.ListN.{length, take, drop, length-drop, length-append}
 use lib.Seq.{take-all, drop-at, drop-append-le, take-append-le}
 use Rattle.layout.specs.Sizes.{record-bytes, block-records, block-record-bytes, block-bytes}
 use Rattle.layout.specs.Tables.{table, table-from}
-use Rattle.layout.specs.Bytes.{part, check, word-bytes, put}
+use Rattle.layout.specs.Bytes.{part, put}
 use Rattle.layout.specs.Blocks.{sealed}
 use Rattle.layout.specs.Converters.{records}
 use Rattle.files.specs.Files.{converter-kind, blocks-for, written-block}
 use Rattle.layout.proofs.Parts.{length-part}
 use Rattle.layout.proofs.Put.{put-behind}
 use Rattle.layout.proofs.Pieces.{pieces-more}
-use Rattle.files.proofs.Sealed.{length-sealed, put-sealed}
+use Rattle.layout.proofs.Sealed.{length-sealed}
 use Rattle.refusals.proofs.Accepted.{Accepted}
 
 module _ (cs : List ℕ) (a : Accepted cs) (k : ℕ) (h : k < blocks-for (records cs)) where
@@ -48,28 +48,17 @@ module _ (cs : List ℕ) (a : Accepted cs) (k : ℕ) (h : k < blocks-for (record
   unfolding written-block
   length-written-block = length-sealed converter-kind held (block-records * k) (part cs (block-record-bytes * k) block-record-bytes) (omega (arith, ap length block-part, length-block-part))
 
-  -- the steps that write it
-  pub put-block : (bs l1 l2 l3 l4 : List ℕ) (count : ℕ) → block-bytes * k + block-bytes ≤ length bs → count ≡ held
-      → l1 ≡ put bs (block-bytes * k) (converter-kind ∷ count ∷ word-bytes (block-records * k))
-      → l2 ≡ put l1 (block-bytes * k + 4) (part cs (record-bytes * (block-records * k)) (record-bytes * count))
-      → l3 ≡ put l2 (block-bytes * k + 4 + record-bytes * count) (replicate (506 - record-bytes * count) 0)
-      → l4 ≡ put l3 (block-bytes * k + 510) (word-bytes (check (part l3 (block-bytes * k) 510)))
-      → l4 ≡ put bs (block-bytes * k) (written-block cs k)
+  -- the block that is written
+  pub put-block : (bs done : List ℕ) (count : ℕ) → count ≡ held
+      → done ≡ put bs (block-bytes * k) (sealed converter-kind count (block-records * k) (part cs (record-bytes * (block-records * k)) (record-bytes * count)))
+      → done ≡ put bs (block-bytes * k) (written-block cs k)
   unfolding written-block
-  put-block bs l1 l2 l3 l4 count room c e1 e2 e3 e4 =
+  put-block bs done count c e =
       let at = block-bytes * k in
-      let w = word-bytes (block-records * k) in
-      let from = record-bytes * (block-records * k) in
-      let rs = part cs from (record-bytes * held) in
-      let e : l3 ≡ put (put (put bs at (converter-kind ∷ held ∷ w)) (at + 4) rs) (at + 4 + length rs) (replicate (506 - length rs) 0) =
-      e3
-      ∙ ap (λ l. put l (at + 4 + record-bytes * count) (replicate (506 - record-bytes * count) 0)) (e2 ∙ ap (λ l. put l (at + 4) (part cs from (record-bytes * count))) e1)
-      ∙ ap (λ n. put (put (put bs at (converter-kind ∷ n ∷ w)) (at + 4) (part cs from (record-bytes * n))) (at + 4 + record-bytes * n) (replicate (506 - record-bytes * n) 0)) c
-      ∙ ap (λ n. put (put (put bs at (converter-kind ∷ held ∷ w)) (at + 4) rs) (at + 4 + n) (replicate (506 - n) 0)) (sym length-block-part) in
-      e4
-      ∙ ap (λ l. put l (at + 510) (word-bytes (check (part l at 510)))) e
-      ∙ put-sealed converter-kind held (block-records * k) rs (omega (arith, length-block-part)) bs at room
-      ∙ ap (λ r. put bs at (sealed converter-kind held (block-records * k) r)) (sym block-part)
+      let first = block-records * k in
+      e
+      ∙ ap (λ n. put bs at (sealed converter-kind n first (part cs (record-bytes * first) (record-bytes * n)))) c
+      ∙ ap (λ r. put bs at (sealed converter-kind held first r)) (sym block-part)
 
 -- ---- the first k blocks
 module _ (cs : List ℕ) where

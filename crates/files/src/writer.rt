@@ -1,19 +1,16 @@
 // The writer: a converter to blocks of kind 5, 9 records each, the last 1 to 9.
 ghost use mathlib.Core.Path.{_≡_};
-ghost use mathlib.Core.List.{_∷_};
 ghost use Prim.Native.Nat.{_+_, _-_, _*_, _<_, _≤_, min};
 ghost use lib.ListN.{length};
-ghost use Rattle.layout.specs.Sizes.{block-bytes, check-in-block, records-in-block, block-records, most-records};
-ghost use Rattle.layout.specs.Bytes.{part, check, word-bytes, put};
+ghost use Rattle.layout.specs.Sizes.{block-bytes, block-records, most-records};
+ghost use Rattle.layout.specs.Bytes.{put};
 ghost use Rattle.layout.specs.Converters.{records};
 ghost use Rattle.refusals.specs.Refusals.{converter-refusal};
 ghost use Rattle.files.specs.Files.{blocks-for, written-block, written};
 ghost use Rattle.files.specs.FileRefusals.{write-refusal};
 ghost use Rattle.files.specs.Answers.{Writes};
 use crate::answers::Written;
-use layout::ranges;
 use layout::sizes;
-use layout::words;
 use refusals::converters;
 
 // How many blocks n records fill.
@@ -38,25 +35,6 @@ pub fn write_refusal(converter: &[u8], room: usize) -> u8
     0
 }
 
-// The first four bytes of a block.
-fn write_header(s: &mut [u8], at: usize, kind: u8, count: u8, first: u16)
-    requires { ⌜ at + records-in-block ≤ length (now s) ⌝ }
-    ensures { λ _. ⌜ now (s .exit) ≡ put (now (s .entry)) at (kind ∷ count ∷ word-bytes first) ⌝ }
-{
-    s[at] = kind;
-    s[at + sizes::COUNT_IN_BLOCK] = count;
-    words::write_word(s, at + sizes::FIRST_IN_BLOCK, first);
-}
-
-// The check of a block, behind the bytes that it adds up.
-fn seal(s: &mut [u8], at: usize)
-    requires { ⌜ at + block-bytes ≤ length (now s) ⌝ }
-    ensures { λ _. ⌜ now (s .exit) ≡ put (now (s .entry)) (at + check-in-block) (word-bytes (check (part (now (s .entry)) at check-in-block))) ⌝ }
-{
-    let check = ranges::check_of(s, at);
-    words::write_word(s, at + sizes::CHECK_IN_BLOCK, check);
-}
-
 // How many records block k holds, of n.
 fn count_in_block(n: usize, k: usize) -> usize
     requires { ⌜ block-records * k < n ⌝ }
@@ -77,17 +55,16 @@ fn write_block(converter: &[u8], k: usize, blocks: &mut [u8])
     let at = sizes::BLOCK_BYTES * k;
     let first = sizes::BLOCK_RECORDS * k;
     let count = count_in_block(converters::count(converter), k);
-    let used = sizes::RECORD_BYTES * count;
-    let behind = at + sizes::RECORDS_IN_BLOCK;
-    write_header(blocks, at, sizes::CONVERTER_KIND, count as u8, first as u16);
-    ranges::copy(converter, sizes::RECORD_BYTES * first, blocks, behind, used);
-    ranges::fill(
+    layout::blocks::write(
         blocks,
-        behind + used,
-        sizes::CHECK_IN_BLOCK - sizes::RECORDS_IN_BLOCK - used,
-        0,
+        at,
+        sizes::CONVERTER_KIND,
+        count as u8,
+        first as u16,
+        converter,
+        sizes::RECORD_BYTES * first,
+        sizes::RECORD_BYTES * count,
     );
-    seal(blocks, at);
 }
 
 // All blocks of the file of a converter.

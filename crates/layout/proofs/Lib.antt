@@ -1,19 +1,13 @@
 -- Laws of bytes and of the records by value, which proofs of functions here and above cite.
 pub mod Tables
-pub mod AnyOf
-pub mod Backwards
 pub mod DesignBytes
-pub mod JointLaws
-pub mod JointMoves
-pub mod JointNumbers
 pub mod Parts
 pub mod Pieces
 pub mod Put
-pub mod ShowDigits
 pub mod SignedBytes
-pub mod StateMoves
 pub mod RecordBytes
 pub mod FormulaRecords
 pub mod ConverterBytes
 pub mod Nodes
+pub mod Sealed
 pub mod Made

@@ -8,7 +8,5 @@ pub mod Records
 pub mod Unused
 pub mod Blocks
 pub mod Designs
-pub mod Joint
-pub mod Joints
 pub mod Converters
 pub mod Tests

@@ -1,5 +1,5 @@
--- Specification, "When a call declines": refusals 5, 6, 7 and 11 as tests of the model's states, formulas and converter states. (`proofs/WellFormed` shows that
--- they are the model's predicates.)
+-- Specification, "When a call declines": refusals 5, 6, 7 and 11 as tests of the model's states, formulas and converter states. (5 to 7
+-- are the model's predicates: `refusals/proofs/WellFormed`. What 11 asks is said by transitions and events in `proofs/Nodes`.)
 use mathlib.Core.Bool.{Bool, true, not, _&&_, _||_}
 use mathlib.Core.List.{List}
 use Prim.Native.Nat.{ℕ}

@@ -1,9 +1,8 @@
-// Bytes: words, events, and the records of designs and of converters by value. Offsets stand here and nowhere above.
+// Bytes: words, events, blocks, and the records of designs and of converters by value. Offsets stand here and nowhere above.
+pub mod blocks;
 pub mod designs;
 pub mod events;
 pub mod formulas;
-pub mod joint;
-pub mod joints;
 pub mod ranges;
 pub mod records;
 pub mod sizes;

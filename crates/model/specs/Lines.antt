@@ -1,6 +1,6 @@
 -- Specification, "What a converter may do": what the kinds of the side states ask of a converter state that names them, in three lines, as they are worded and of
--- any number of sides. "If no side is input, all transitions are enabled; if some are input and some delayed, exactly one for each choice of the delayed sides
--- to send or tick; else one or more." (`proofs/Lines`: this is what `duty` asks.)
+-- any number of sides: none is input, "all transitions of the joint state"; some are input and some delayed, "exactly one for each choice of the delayed sides
+-- to send or tick"; any others, "one at least". (`proofs/Lines`: this is what `duty` asks.)
 use mathlib.Core.Path.{_≡_}
 use mathlib.Core.Bool.{Bool, true, false}
 use mathlib.Core.List.{List, [], _∷_, map, List·Memᴰ as In}
@@ -21,7 +21,7 @@ NoneInput ks = In input ks → ⊥
 abbrev pub InputAndDelayed : List Kind → Type 0
 InputAndDelayed ks = In input ks × In delayed ks
 
--- else
+-- any others
 abbrev pub Otherwise : List Kind → Type 0
 Otherwise ks = (NoneInput ks → ⊥) × (InputAndDelayed ks → ⊥)
 

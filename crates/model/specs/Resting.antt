@@ -1,5 +1,5 @@
--- A design that comes without a third side: "the third side is one ticking state without labels", and its converters are those of the two sides "with zeros
--- added". Both are said of any number of sides, the resting one behind them. (`proofs/Rested`: the verdicts stay.)
+-- Specification, "Events and states": a design of two tables has three sides too, of which the third is one state, without labels, whose only transition is a tick to
+-- itself. Its converters are those of the two sides with zeros added. Both are said of any number of sides, the resting one behind them. (`proofs/Rested`: the verdicts stay.)
 use mathlib.Core.List.{List, [], _∷_, _++_, map}
 use Prim.Native.Nat.{ℕ}
 use Rattle.model.specs.Events.{Event, tick}

@@ -14,8 +14,8 @@ use Rattle.layout.specs.Sizes.{place-count}
 use Rattle.layout.specs.Tables.{every, distinct}
 use Rattle.layout.specs.States.{no-place, move-of, state-of}
 use Rattle.layout.specs.Tests.{in-range, move, state-right, sends-or-waits, is-input, is-output-only, is-delayed, kind-right}
-use Rattle.layout.proofs.StateMoves.{moves-length, move-at}
 use Rattle.layout.proofs.Tables.{true-T, false-T, each-every, every-each}
+use Rattle.joint.proofs.StateMoves.{moves-length, move-at}
 
 every-cong : (p r : ℕ → Bool) (n : ℕ) → ((k : ℕ) → k < n → p k ≡ r k) → every n p ≡ every n r
 unfolding every

@@ -9,7 +9,6 @@ ghost use Rattle.layout.specs.Tables.{every};
 ghost use Rattle.layout.specs.States.{no-place, move-of, state-of};
 ghost use Rattle.layout.specs.Tests.{state-right, sends-or-waits, kind-right};
 use layout::events;
-use layout::joint;
 use layout::sizes;
 use layout::states::Place;
 use layout::states::StateRecord;

@@ -6,8 +6,7 @@ ghost use Rattle.layout.specs.Sizes.{block-bytes, records-in-block, check-in-bl
 ghost use Rattle.layout.specs.Bytes.{put};
 ghost use Rattle.layout.specs.Blocks.{sealed};
 ghost use Rattle.row_parts.specs.Made.{made, made-of-three};
-use crate::blocks;
-use layout::ranges;
+use layout::blocks;
 use layout::sizes;
 
 // Where the third block, the fourth and the fifth stand.
@@ -23,17 +22,7 @@ fn block(s: &mut [u8], at: usize, kind: u8, size: usize, records: &[u8])
     ensures { λ _. ⌜ now (s .exit) ≡ put (now (s .entry)) at (sealed kind (length (now (records .entry)) / size) 0 (now (records .entry))) ⌝ }
 {
     let n = records.len();
-    let header = [kind, (n / size) as u8, 0, 0];
-    let behind = at + sizes::RECORDS_IN_BLOCK;
-    ranges::copy(&header, 0, s, at, sizes::RECORDS_IN_BLOCK);
-    ranges::copy(records, 0, s, behind, n);
-    ranges::fill(
-        s,
-        behind + n,
-        sizes::CHECK_IN_BLOCK - sizes::RECORDS_IN_BLOCK - n,
-        0,
-    );
-    blocks::seal(s, at);
+    blocks::write(s, at, kind, (n / size) as u8, 0, records, 0, n);
 }
 
 // The four blocks of a design of two sides, from the bytes of their records: the states of each side, the formulas and the rules.

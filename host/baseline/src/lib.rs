@@ -42,10 +42,10 @@ fn word(bytes: &[u8], at: usize) -> u16 {
     u16::from_le_bytes([bytes[at], bytes[at + 1]])
 }
 
-/// The check of a block: bytes 0 to 509 added up. 510 bytes of 255 don't wrap.
+/// The check of a block: bytes 0 to 509 added up, wrapping at 65,536.
 #[inline]
 fn check(block: &[u8]) -> u16 {
-    block[..510].iter().map(|&byte| u16::from(byte)).sum()
+    block[..510].iter().fold(0, |sum: u16, &byte| sum.wrapping_add(u16::from(byte)))
 }
 
 /// Whether all bytes are zero.

@@ -16,7 +16,8 @@ use checker::search::find;
 use meanings::rewritten;
 use samples::{
     handshake, hub, lock_and_menu, mistaken_labels, next_sixteen_next_seventeen, rings,
-    ruled_handshake, state, three_rings, ticking_in_turn, two_inputs,
+    ruled_handshake, state, three_rings, thumbnails, ticking_in_turn, two_inputs, viewer,
+    viewer_once,
 };
 
 /// The most positions of a random design here. The tableau is for small ones.
@@ -178,6 +179,10 @@ fn rows_with_a_converter() {
         lock_and_menu(),
         rings(Formula::Always(14)),
         three_rings(Formula::Always(9)),
+        viewer(idle_side()),
+        viewer(thumbnails(false)),
+        viewer_once(idle_side()),
+        viewer_once(thumbnails(false)),
     ];
     for design in rows {
         assert!(!no_converter(&design), "{design:?}");
@@ -195,6 +200,8 @@ fn rows_without_a_converter() {
         handshake(waiting, vec![2]),
         two_inputs(next_sixteen_next_seventeen(), vec![2, 3]),
         two_inputs(both_of_two, vec![4]),
+        viewer(thumbnails(true)),
+        viewer_once(thumbnails(true)),
     ];
     for design in rows.into_iter().chain(mistaken_labels()) {
         assert!(no_converter(&design), "{design:?}");

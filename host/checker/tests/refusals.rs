@@ -291,8 +291,8 @@ fn limits_of_a_design() {
     assert_eq!(read_design(&design.to_bytes()), Ok(design));
 }
 
-/// A converter of 30 records that are right in themselves. The first, the one
-/// in the middle of block 1 and the last have room for a further transition.
+/// A converter of 30 records that are right in themselves. The first, the third
+/// of block 2 and the last have room for a further transition.
 fn thirty_records() -> Vec<Record> {
     let mut records = loose_converter(&mut Random::new(30), 30);
     for at in [0, 20, 29] {

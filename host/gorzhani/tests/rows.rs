@@ -12,7 +12,7 @@ use samples::{
     design, events_at_four_choices, events_of_three_delayed, figure_five, four_choices, handshake,
     lock_and_menu, lock_and_menu_converter, mistaken_labels, next_sixteen_next_seventeen,
     one_record, record, reordered, ruled_handshake, state, three_delayed, thumbnails,
-    ticking_in_turn, two_inputs, viewer, ORDERS,
+    ticking_in_turn, two_inputs, viewer, viewer_once, ORDERS,
 };
 
 /// The answer to a search with the lengths that are demanded; 0 is a converter. Where a design has
@@ -176,16 +176,9 @@ fn a_third_side_breaks_a_two_sided_verdict() {
     assert_eq!((positions(&prompt), searched(&prompt)), (32, 0));
     assert_eq!((positions(&waiting), searched(&waiting)), (32, 16));
     // One picture is enough, at a time when 32 doesn't hold.
-    let designs = [&alone, &prompt, &waiting];
-    for (design, answer) in designs.into_iter().zip([(4, 0), (8, 0), (8, 16)]) {
-        let formulas = vec![
-            Formula::True,
-            Formula::Proposition(16),
-            Formula::NotProposition(32),
-            Formula::And(1, 2),
-            Formula::Until(0, 3),
-        ];
-        let once = Design { formulas, rules: vec![4], ..design.clone() };
+    let thirds = [idle_side(), thumbnails(false), thumbnails(true)];
+    for (third, answer) in thirds.into_iter().zip([(4, 0), (8, 0), (8, 16)]) {
+        let once = viewer_once(third);
         assert_eq!((positions(&once), searched(&once)), answer);
     }
     // A converter with zeros for the third side doesn't let it send.

@@ -223,6 +223,18 @@ pub fn viewer(third: Vec<State>) -> Design {
     Design { sides: [kernel, host, third], formulas, rules: vec![3, 7] }
 }
 
+/// The same, where one picture is enough, at a time when 32 doesn't hold.
+pub fn viewer_once(third: Vec<State>) -> Design {
+    let formulas = vec![
+        Formula::True,
+        Formula::Proposition(16),
+        Formula::NotProposition(32),
+        Formula::And(1, 2),
+        Formula::Until(0, 3),
+    ];
+    Design { formulas, rules: vec![4], ..viewer(third) }
+}
+
 /// The thumbnails: v0 waits, or sends 1 and goes to v1, where 32 holds; v1 sends 2 and
 /// goes back, or it may wait there too.
 pub fn thumbnails(may_wait: bool) -> Vec<State> {

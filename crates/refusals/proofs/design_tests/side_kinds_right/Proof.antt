@@ -13,7 +13,7 @@ use Rattle.layout.specs.Designs.{design, side}
 use Rattle.layout.specs.Tests.{kind-right, kinds-right}
 use Rattle.layout.proofs.DesignBytes.{stored-state-is}
 use Rattle.layout.proofs.Tables.{every-true, every-false}
-use Rattle.layout.proofs.StateMoves.{moves-length}
+use Rattle.joint.proofs.StateMoves.{moves-length}
 use Rattle.refusals.proofs.StateTests.{side-states-formed}
 use borrow.Author.Needs.{needs}
 use Rattle.refusals.proofs.design_tests.side_kinds_right.Statement.{statement}

@@ -1,7 +1,7 @@
 -- `designs::design` meets its contract: four blocks, one behind the other.
 use native.Mathlib.Omega.{arith}
 use borrow.Author.Needs.{needs}
-use Rattle.files.proofs.Sealed.{length-sealed}
+use Rattle.layout.proofs.Sealed.{length-sealed}
 use Rattle.row_parts.specs.Made.{made}
 use Rattle.row_parts.proofs.Making.{four-put}
 use Rattle.row_parts.proofs.designs.design.Statement.{statement}

@@ -1,7 +1,7 @@
 -- `designs::design_of_three` meets its contract: five blocks, one behind the other.
 use native.Mathlib.Omega.{arith}
 use borrow.Author.Needs.{needs}
-use Rattle.files.proofs.Sealed.{length-sealed}
+use Rattle.layout.proofs.Sealed.{length-sealed}
 use Rattle.row_parts.specs.Made.{made-of-three}
 use Rattle.row_parts.proofs.Making.{five-put}
 use Rattle.row_parts.proofs.designs.design_of_three.Statement.{statement}

@@ -6,7 +6,6 @@ use Rattle.layout.specs.Records.{named}
 use Rattle.layout.proofs.records.Record.new.Statement.{statement}
 use Rattle.layout.proofs.records.Record.new.Tie as tie
 
--- src/records.rt:90:5
 returns : tie.Need-returns
 unfolding named table table-from event-of
 returns c = refl
