@@ -8,6 +8,7 @@ ghost use Rattle.layout.specs.Sizes.{place-count};
 ghost use Rattle.layout.specs.Tables.{every};
 ghost use Rattle.layout.specs.States.{no-place, move-of, state-of};
 ghost use Rattle.layout.specs.Tests.{state-right, sends-or-waits, kind-right};
+use joint::sides;
 use layout::events;
 use layout::sizes;
 use layout::states::Place;
@@ -82,7 +83,7 @@ pub fn kind_right(q: StateRecord, k: usize) -> bool
     requires { ⌜ q .count ≤ place-count ⌝ }
     ensures { λ r. ⌜ r ≡ kind-right k (state-of q) ⌝ }
 {
-    if !joint::sends(q) {
+    if !sides::sends(q) {
         return true;
     }
     if q.count == 1 {
