@@ -32,14 +32,18 @@ state-count-requires c κs = let start = c .before .before .before .before in (a
 returns-2 : tie.Need-returns-2
 unfolding entry-right
 returns-2 c =
-    let start = c .before .before .before .before .before .before in
+    let in-limits = c .before .before .before in
+    let start = in-limits .before .before .before in
     let e = start .args .e in
     let S = side (design (start .args .d .now)) (e .side) in
-    sym (rw (lt-ltb (e .side) side-count (c .before .before .before .if1 .left), le-ltb (e .state) (length S) (omega (arith, c .before .state-count .ensures))))
+    sym (rw (lt-ltb (e .side) side-count (in-limits .if1 .left), le-ltb (e .state) (length S) (omega (arith, c .before .state-count .ensures))))
 
 -- ---- where the side has the state
+abbrev side-told : tie.Else2 → tie.Else1
+side-told c = c .before .before .before
+
 abbrev started : tie.Else2 → tie.Start
-started c = c .before .before .before .before .before .before
+started c = side-told c .before .before .before
 
 abbrev entry : tie.Else2 → Entry
 entry c = started c .args .e
@@ -48,7 +52,7 @@ abbrev named-side : tie.Else2 → Side
 named-side c = side (design (started c .args .d .now)) (entry c .side)
 
 side-there : (c : tie.Else2) → entry c .side < side-count
-side-there c = c .before .before .before .if1 .left
+side-there c = side-told c .if1 .left
 
 state-there : (c : tie.Else2) → entry c .state < length (named-side c)
 state-there c = omega (arith, c .before .state-count .ensures)

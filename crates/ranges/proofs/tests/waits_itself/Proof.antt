@@ -35,24 +35,24 @@ sends-or-returns-requires c κs = search needs
 
 returns-2 : tie.Need-returns-2
 returns-2 c =
-    let start = c .before .before .before .before .before in
-    let q = start .args .t1 in
-    let k = start .args .k in
-    sym
-    (two-decides k q (c .before .before .before .before .if1 .left)
-    ∙ ap (λ x. x || turned-round (sends-or-returns k) q) (sym (c .before .sends-or-returns .ensures) ∙ c .if2 .taken))
+    let asked = c .before in
+    let two = asked .before .before .before in
+    let q = two .before .args .t1 in
+    let k = two .before .args .k in
+    sym (two-decides k q (two .if1 .left) ∙ ap (λ x. x || turned-round (sends-or-returns k) q) (sym (asked .sends-or-returns .ensures) ∙ c .if2 .taken))
 
 sends-or-returns-requires-2 : tie.Need-sends-or-returns-requires-2
 sends-or-returns-requires-2 c κs = search needs
 
 returns-3 : tie.Need-returns-3
 returns-3 c =
-    let start = c .before .before .before .before .before .before in
-    let q = start .args .t1 in
-    let k = start .args .k in
+    let asked = c .before .before in
+    let two = asked .before .before .before in
+    let q = two .before .args .t1 in
+    let k = two .before .args .k in
     sym
-    (two-decides k q (c .before .before .before .before .before .if1 .left)
-    ∙ ap (λ x. x || turned-round (sends-or-returns k) q) (sym (c .before .before .sends-or-returns .ensures) ∙ c .before .if2 .left)
+    (two-decides k q (two .if1 .left)
+    ∙ ap (λ x. x || turned-round (sends-or-returns k) q) (sym (asked .sends-or-returns .ensures) ∙ c .before .if2 .left)
     ∙ sym (c .sends-or-returns2 .ensures))
 
 pub waits-itself-spec : {M : Type 1} → statement M
