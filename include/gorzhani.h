@@ -1,19 +1,19 @@
 /* Gorzhani: converters between the tables of a kernel, a host and a third side, searched, judged and run. The functions are proved in Rattle for every input.
  *
- * The machine: x86-64 Linux, with the System V C calling convention. The archive needs memset, from the C library or of one's own, and nothing
- * else. It allocates nothing, asks nothing of the system and keeps nothing from call to call: calls on other buffers may run at the same time.
+ * The machine: x86-64 Linux, with the System V C calling convention. The archive needs memcpy and memset, from the C library or of one's own, and
+ * nothing else. It allocates nothing, asks nothing of the system and keeps nothing from call to call: calls on other buffers may run at the same time.
  *
  * What the caller owes, and C cannot state:
  * - each pointer is valid for its length and not null, also where the length is 0;
  * - the runner's pointer is aligned as struct gorzhani_runner is, to 2 bytes; every other pointer may stand anywhere;
- * - what is written (table, work, the blocks of a write, the converter of a read, the runner) overlaps no other buffer of the call; buffers that are only
- *   read may overlap;
+ * - what is written (table, work, the blocks of a write, the converter of a read, the runner, the result of ranges) overlaps no other buffer of the call;
+ *   buffers that are only read may overlap;
  * - nobody else writes any of these buffers meanwhile, nor reads those that are written;
  * - the stack has room for the call (GORZHANI_SEARCH_STACK and the others below).
  * All else is proved: no call is undefined, whoever made the input, and each bad input gets its number.
  *
  * An answer below 0 is a refusal, the number negated: compare with -GORZHANI_REFUSED_NO_CONVERTER and the like. The first number that applies is answered,
- * in their order, each tried over the whole input. Any other answer is a count, or 0 for "yes" and "done".
+ * in the order that stands at each call, each tried over the whole input. Any other answer is a count, or 0 for "yes" and "done".
  *
  * What is lent may be longer than needed; the bytes behind stay as they are. It may hold anything before the call, also bytes that were never written: a
  * search reads some of those and tests what they say, which a memory checker may report. After a yes, 14, 15, 16 or a converter found the work that was
@@ -40,7 +40,9 @@ enum {
     GORZHANI_BLOCK_BYTES = 512,
     GORZHANI_BLOCK_RECORDS = 9,
     /* work: so many a position (search) or a record (judge) */
-    GORZHANI_CELL_BYTES = 16
+    GORZHANI_CELL_BYTES = 16,
+    /* an entry in a list of ranges */
+    GORZHANI_ENTRY_BYTES = 4
 };
 
 /* The most that there may be. A table and a work of the sizes given here are enough for every design that isn't refused with 9, and the work for every
@@ -55,15 +57,16 @@ enum {
 };
 
 /* The bytes of stack that a call takes at the most, its return address included, rounded up to whole KiB: the archive's frames add up to no more on any way
- * through it, and host/gorzhani/tests/stack.rs measures calls. Of memset only the return address is counted, since the C library's takes no more.
- * Where a program finds it at its first call alone (lazy binding), its loader takes about 3 KiB beside at that call. */
+ * through it, and host/gorzhani/tests/stack.rs measures calls. Of memcpy and memset only the return address is counted, since the C library's take no more.
+ * Where a program finds one of them at its first call alone (lazy binding), its loader takes about 3 KiB beside at that call. */
 enum {
     GORZHANI_POSITIONS_STACK = 1024,
     GORZHANI_SEARCH_STACK = 8192,
     GORZHANI_JUDGE_STACK = 1024,
     GORZHANI_WRITE_STACK = 1024,
     GORZHANI_READ_STACK = 1024,
-    GORZHANI_TICK_STACK = 1024
+    GORZHANI_TICK_STACK = 1024,
+    GORZHANI_RANGES_STACK = 1024
 };
 
 /* The numbers of the refusals; an answer is their negation. */
@@ -102,7 +105,12 @@ enum {
     /* no converter exists, of any size */
     GORZHANI_REFUSED_NO_CONVERTER = 16,
     /* the runner's record isn't there, a shown event is above 0 or below -63, or no transition fits */
-    GORZHANI_REFUSED_TICK = 17
+    GORZHANI_REFUSED_TICK = 17,
+    /* a list of ranges is no multiple of 4 bytes, or an entry of it has a side over 2, a state that isn't there or isn't delayed with its tick to itself, a
+     * count over 15 that isn't 255 as the greatest, a least count above the greatest, or a state named before */
+    GORZHANI_REFUSED_RANGES = 22,
+    /* a side has over 16 states after replacement */
+    GORZHANI_REFUSED_TOO_MANY_STATES = 23
 };
 
 /* Counts the positions of a design, by which its search is lent memory. Answers the count, 1 to 65,536, or refuses with 1 to 9. */
@@ -131,6 +139,19 @@ struct gorzhani_runner {
 /* One tick: each side shows the event that it sends, or 0. Afterwards the runner holds the next record and the events to deliver. Answers 0, or refuses with
  * 10, 11, 17; the runner is then as it was. Only the record that the runner stands at is tried for 11. */
 int32_t gorzhani_tick(const uint8_t *converter, size_t converter_len, struct gorzhani_runner *runner, int8_t first, int8_t second, int8_t third);
+
+/* The counts of an entry in a list of ranges: 0 to 15, or 255 for no greatest. */
+enum {
+    GORZHANI_MOST_WAITS = 15,
+    GORZHANI_NO_GREATEST = 255
+};
+
+/* Replaces delayed states by states that count their waits: lend as many bytes of result as the design has, which become the new design. Each entry has
+ * four bytes and gives, for one delayed state whose tick leads to itself, how often it waits: side (0 the kernel, 1 the host, 2 the third side), state, least
+ * and greatest count. Below the least the new states only tick, from the least on they send or tick, at the greatest they only send; without a greatest the
+ * one at the least keeps its tick to itself. Count 0 keeps the state's number; the later counts stand behind the side's last state, in the order of the entries
+ * and of the counts, with the same labels. An empty list copies the design. Answers 0, or refuses with 1 to 8, 22, 23, 12. */
+int32_t gorzhani_ranges(const uint8_t *design, size_t design_len, const uint8_t *entries, size_t entries_len, uint8_t *result, size_t result_len);
 
 #ifdef __cplusplus
 }

@@ -1,5 +1,5 @@
 /* From a design to ticks, over the C header alone: the handshake pair of the README's example with no rules, then three sides of one state each. Then rules
- * over labels, each of which belongs to one side. Prints what each call answered. */
+ * over labels, each of which belongs to one side, and the handshake pair with a wait that is known by range. Prints what each call answered. */
 #include <stdio.h>
 #include <stdlib.h>
 #include <string.h>
@@ -85,6 +85,47 @@ static void ask(int sides, int proposition) {
     printf("proposition %d of %d sides: judge %d, search %s\n", proposition, sides, (int)judged, found(records));
 }
 
+/* Begins a design with the sides of the handshake pair. */
+static void handshake(void) {
+    const int8_t s0[] = {0, 0, -1, 1}, s1[] = {0, 1, -2, 0}, t0[] = {0, 0, 1, 1}, t1[] = {2, 0};
+    begin(2);
+    state(0, 0, 1 << 0, 2, s0);
+    state(0, 1, 1 << 1, 2, s1);
+    state(1, 0, 1 << 2, 2, t0);
+    state(1, 1, 1 << 3, 1, t1);
+}
+
+/* Searches a converter for a design of at most 16 positions and judges it. */
+static void search_and_judge(const char *what, const uint8_t *searched) {
+    static uint8_t table[16 * GORZHANI_RECORD_BYTES], work[16 * GORZHANI_CELL_BYTES];
+    int32_t positions = gorzhani_positions(searched, design_len);
+    int32_t records = gorzhani_search(searched, design_len, table, sizeof table, work, sizeof work);
+    printf("%s: positions %d, search %s\n", what, (int)positions, found(records));
+    if (records <= 0) return;
+    printf("judge %d\n", (int)gorzhani_judge(searched, design_len, table, GORZHANI_RECORD_BYTES * (size_t)records, work, sizeof work));
+}
+
+/* The handshake pair with the rule A(true U 1): s1 is to come. No converter exists, since s0 may wait for ever; where it waits twice at the most, one does. */
+static void waits(void) {
+    static uint8_t patient[GORZHANI_FIVE_BLOCK_DESIGN_BYTES];
+    const uint8_t formulas[] = {1, 0, 0, 0, 3, 1, 0, 0, 8, 0, 1, 0}, until = 2;
+    const uint8_t twice[] = {0, 0, 0, 2}, above[] = {0, 0, 3, 2}, too_many[] = {0, 0, 15, GORZHANI_NO_GREATEST};
+    handshake();
+    memcpy(design + design_len - 1024 + 4, formulas, sizeof formulas);
+    design[design_len - 512 + 4] = until;
+    end(2, 3, 1);
+    search_and_judge("s0 waits for ever", design);
+    int32_t answer = gorzhani_ranges(design, design_len, twice, sizeof twice, patient, sizeof patient);
+    printf("ranges %d, states %d\n", (int)answer, patient[1]);
+    search_and_judge("s0 waits at most twice", patient);
+    printf("least above greatest: %s\n",
+           declined(gorzhani_ranges(design, design_len, above, sizeof above, patient, sizeof patient), GORZHANI_REFUSED_RANGES));
+    printf("too many states: %s\n",
+           declined(gorzhani_ranges(design, design_len, too_many, sizeof too_many, patient, sizeof patient), GORZHANI_REFUSED_TOO_MANY_STATES));
+    printf("short result: %s\n",
+           declined(gorzhani_ranges(design, design_len, twice, sizeof twice, patient, design_len - 1), GORZHANI_REFUSED_SHORT_RESULT));
+}
+
 /* A kernel that ticks or sends 1, a host that reads 1 or 2, and a third side that ticks or sends 3: one position, and a transition for each of four choices. */
 static void three_sides(void) {
     static uint8_t table[GORZHANI_RECORD_BYTES], work[GORZHANI_CELL_BYTES];
@@ -108,12 +149,7 @@ static void three_sides(void) {
 }
 
 int main(void) {
-    const int8_t s0[] = {0, 0, -1, 1}, s1[] = {0, 1, -2, 0}, t0[] = {0, 0, 1, 1}, t1[] = {2, 0};
-    begin(2);
-    state(0, 0, 1 << 0, 2, s0);
-    state(0, 1, 1 << 1, 2, s1);
-    state(1, 0, 1 << 2, 2, t0);
-    state(1, 1, 1 << 3, 1, t1);
+    handshake();
     end(2, 0, 0);
 
     int32_t positions = gorzhani_positions(design, design_len);
@@ -156,5 +192,7 @@ int main(void) {
     ask(2, 2 * 16 + 3);
     ask(3, 2 * 16 + 3);
     ask(3, 3 * 16);
+
+    waits();
     return 0;
 }

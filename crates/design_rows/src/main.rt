@@ -1,6 +1,10 @@
-// Runs the rows of the specification on the reading of a design. For each it writes a line: what was read, and the number of the refusal, which is 0 for none.
+// Runs the rows of the specification on the reading of a design and on waits known by range. For each it writes a line: what was read, and the number of the
+// refusal, which is 0 for none.
 ghost use Prim.Native.Nat.{_<_, _≤_};
 ghost use lib.ListN.{length};
+
+mod waits;
+
 use layout::blocks;
 use row_parts::designs;
 use row_parts::lines;
@@ -49,6 +53,17 @@ fn first_state(words: &[u8], event: i8, target: u8) {
     let mut kernel = tables::H_KERNEL;
     kernel[5] = target;
     kernel[6] = layout::events::to_byte(event);
+    let none = [0u8; 0];
+    let mut d = [0u8; 2048];
+    designs::design(&mut d, &kernel, &tables::H_HOST, &none, &none);
+    whole(words, &d);
+}
+
+// H whose s0 has these two events.
+fn two_events(words: &[u8], one: i8, other: i8) {
+    let mut kernel = tables::H_KERNEL;
+    kernel[4] = layout::events::to_byte(one);
+    kernel[6] = layout::events::to_byte(other);
     let none = [0u8; 0];
     let mut d = [0u8; 2048];
     designs::design(&mut d, &kernel, &tables::H_HOST, &none, &none);
@@ -152,6 +167,9 @@ fn states() {
     first_state(b"event -128", -128, 0);
     first_state(b"tick to another state beside a sent event", -1, 1);
     first_state(b"a target that isn't a state", -1, 2);
+    two_events(b"a sent event before a tick to another state", -1, 0);
+    two_events(b"two sent events", -2, -1);
+    two_events(b"a read event beside a sent one", 2, -1);
 }
 
 fn changed() {
@@ -192,4 +210,5 @@ fn main() {
     changed();
     third_sides();
     formulas();
+    waits::rows();
 }

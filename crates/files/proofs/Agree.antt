@@ -1,42 +1,24 @@
 -- Bytes that agree: a part, a converter record and its test (11) depend on their own bytes alone.
 use mathlib.Core.Path.{_≡_, refl, sym, ap, ap₂, _∙_}
 use mathlib.Core.Bool.{Bool, true, false, _&&_}
-use mathlib.Core.List.{List, _∷_, _++_}
-use Prim.Native.Nat.{ℕ, zero, suc, _+_, _-_, _*_, _≤_, _<_}
+use mathlib.Core.List.{List, _++_}
+use Prim.Native.Nat.{ℕ, _+_, _-_, _*_, _≤_, _<_}
 use native.Mathlib.Omega.{arith}
 use lib.ListN.{length}
-use lib.Seq.{ext-getD}
 use Rattle.layout.specs.Sizes.{side-count, place-count, record-bytes, edge-count-at, places-at, transition-bytes, next-at}
-use Rattle.layout.specs.Tables.{table, table-from}
 use Rattle.layout.specs.Bytes.{byte, event-of, part, all-zero}
 use Rattle.layout.specs.Records.{transition-at, record-at, node-of}
 use Rattle.layout.specs.Unused.{converter-record, place-gaps, places-behind, unused}
 use Rattle.layout.specs.Tests.{node-right}
 use Rattle.refusals.specs.Refusals.{record-right}
-use Rattle.layout.proofs.Parts.{length-part, byte-part}
-use Rattle.layout.proofs.Tables.{and-false}
+use Rattle.layout.proofs.Parts.{length-part, byte-part, part-is}
+use Rattle.layout.proofs.Tables.{and-false, table-same}
 use Rattle.layout.proofs.ConverterBytes.{edges-of}
 use Rattle.layout.proofs.Nodes.{well-formed}
 
--- tables of the same entries
-from-same : {A : Type 0} (f g : ℕ → A) (i n : ℕ) → ((k : ℕ) → k < n → f (i + k) ≡ g (i + k)) → table-from f i n ≡ table-from g i n
-unfolding table-from
-from-same f g i zero e = refl
-from-same f g i (suc n) e =
-    let z : i + 0 ≡ i = omega arith in
-    ap₂ _∷_ (sym (ap f z) ∙ e 0 (omega arith) ∙ ap g z)
-    (from-same f g (suc i) n (λ k h. let s : i + suc k ≡ suc i + k = omega arith in sym (ap f s) ∙ e (suc k) (omega arith) ∙ ap g s))
-
-pub table-same : {A : Type 0} (f g : ℕ → A) (n : ℕ) → ((k : ℕ) → k < n → f k ≡ g k) → table n f ≡ table n g
-unfolding table
-table-same f g n e = from-same f g 0 n (λ k h. let z : 0 + k ≡ k = omega arith in ap f z ∙ e k h ∙ sym (ap g z))
-
 -- parts of the same bytes
 pub part-same : (xs ys : List ℕ) (a b n : ℕ) → a + n ≤ length xs → b + n ≤ length ys → ((i : ℕ) → i < n → byte xs (a + i) ≡ byte ys (b + i)) → part xs a n ≡ part ys b n
-part-same xs ys a b n h l e =
-    ext-getD 0 (part xs a n) (part ys b n) (length-part xs a n h ∙ sym (length-part ys b n l)) (λ i u.
-    let v : i < n = omega (arith, length-part xs a n h) in
-    byte-part xs a n i v ∙ e i v ∙ sym (byte-part ys b n i v))
+part-same xs ys a b n h l e = part-is ys b n (part xs a n) l (length-part xs a n h) (λ i v. byte-part xs a n i v ∙ e i v)
 
 -- ---- a record at a in xs, and at b in ys
 module _ (xs ys : List ℕ) (a b : ℕ) (agree : (i : ℕ) → i < record-bytes → byte xs (a + i) ≡ byte ys (b + i)) where

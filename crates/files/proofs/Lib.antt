@@ -1,5 +1,4 @@
 -- To read first: `RoundTrip`, a converter that is written is read back the same, and only such files are read. The rest is what proofs of functions cite.
-pub mod SealedBytes
 pub mod WrittenFile
 pub mod Outcomes
 pub mod FileSizes

@@ -1,22 +1,21 @@
 -- The file of a converter that isn't refused, block by block.
-use mathlib.Core.Path.{_≡_, refl, sym, ap, ap₂, _∙_}
-use mathlib.Core.List.{List, _++_, flatten}
-use Prim.Native.Nat.{ℕ, zero, suc, _+_, _-_, _*_, _≤_, _<_, min}
-use native.Mathlib.Numerals.{add-one}
-use native.Mathlib.Decide.{ℕ-discrete, decLt}
-use native.Mathlib.Nat.{not-suc-le-zero}
+use mathlib.Core.Path.{_≡_, sym, ap, _∙_}
+use mathlib.Core.List.{List, flatten}
+use Prim.Native.Nat.{ℕ, _+_, _-_, _*_, _≤_, _<_, min}
+use native.Mathlib.Decide.{decLt}
 use native.Mathlib.Omega.{arith}
-use lib.ListN.{length, take, drop, length-drop, length-append}
-use lib.Seq.{take-all, drop-at, drop-append-le, take-append-le}
+use lib.ListN.{length, drop, length-drop}
+use lib.Seq.{take-all}
 use Rattle.layout.specs.Sizes.{record-bytes, block-records, block-record-bytes, block-bytes}
-use Rattle.layout.specs.Tables.{table, table-from}
+use Rattle.layout.specs.Tables.{table}
 use Rattle.layout.specs.Bytes.{part, put}
 use Rattle.layout.specs.Blocks.{sealed}
 use Rattle.layout.specs.Converters.{records}
 use Rattle.files.specs.Files.{converter-kind, blocks-for, written-block}
 use Rattle.layout.proofs.Parts.{length-part}
 use Rattle.layout.proofs.Put.{put-behind}
-use Rattle.layout.proofs.Pieces.{pieces-more}
+use Rattle.layout.proofs.Pieces.{pieces-more, length-first}
+use Rattle.layout.proofs.EqualPieces.{piece-part}
 use Rattle.layout.proofs.Sealed.{length-sealed}
 use Rattle.refusals.proofs.Accepted.{Accepted}
 
@@ -67,14 +66,7 @@ module _ (cs : List ℕ) where
 
   module _ (a : Accepted cs) where
     pub length-first-blocks : (k : ℕ) → k ≤ blocks-for (records cs) → length (first-blocks k) ≡ block-bytes * k
-    unfolding table table-from flatten
-    length-first-blocks zero h = refl
-    length-first-blocks (suc k) h =
-        ap (λ n. length (first-blocks n)) (sym (add-one k))
-        ∙ ap length (pieces-more (written-block cs) k)
-        ∙ length-append (first-blocks k) (written-block cs k)
-        ∙ ap₂ _+_ (length-first-blocks k (omega arith)) (length-written-block cs a k (omega arith))
-        ∙ omega arith
+    length-first-blocks k h = length-first (written-block cs) block-bytes k (λ j l. length-written-block cs a j (omega arith))
 
     -- one more, put behind them
     pub put-next-block : (bs : List ℕ) (k : ℕ) → k < blocks-for (records cs) → block-bytes * k + block-bytes ≤ length bs
@@ -87,21 +79,4 @@ module _ (cs : List ℕ) where
 
     -- block k among the first m
     pub block-of : (m k : ℕ) → k < m → m ≤ blocks-for (records cs) → part (first-blocks m) (block-bytes * k) block-bytes ≡ written-block cs k
-    block-of zero k h l = absurd (not-suc-le-zero h)
-    block-of (suc m) k h l =
-        ap (λ n. part (first-blocks n) (block-bytes * k) block-bytes) (sym (add-one m))
-        ∙ ap (λ f. part f (block-bytes * k) block-bytes) (pieces-more (written-block cs) m)
-        ∙ by (ℕ-discrete k m) (λ (u : k < m). block-of m k u (omega arith))
-      where
-        by : Dec (k ≡ m) → (k < m → part (first-blocks m) (block-bytes * k) block-bytes ≡ written-block cs k)
-            → part (first-blocks m ++ written-block cs m) (block-bytes * k) block-bytes ≡ written-block cs k
-        by (yes e) rec =
-            ap (λ j. part (first-blocks m ++ written-block cs m) (block-bytes * j) block-bytes) e
-            ∙ ap (take block-bytes) (drop-at (first-blocks m) (written-block cs m) (block-bytes * m) (length-first-blocks m (omega arith)))
-            ∙ take-all block-bytes (written-block cs m) (omega (arith, length-written-block cs a m (omega arith)))
-            ∙ ap (written-block cs) (sym e)
-        by (no n) rec =
-            let f = length-first-blocks m (omega arith) in
-            ap (take block-bytes) (drop-append-le (block-bytes * k) (first-blocks m) (written-block cs m) (omega arith))
-            ∙ take-append-le block-bytes (drop (block-bytes * k) (first-blocks m)) (written-block cs m) (omega (arith, length-drop (block-bytes * k) (first-blocks m)))
-            ∙ rec (omega arith)
+    block-of m k h l = piece-part (written-block cs) block-bytes m (λ j u. length-written-block cs a j (omega arith)) k h

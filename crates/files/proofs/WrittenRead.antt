@@ -4,17 +4,17 @@ use mathlib.Core.Bool.{true}
 use mathlib.Core.List.{List}
 use Prim.Native.Nat.{ℕ, _+_, _-_, _*_, _/_, _%_, _≤_, _<_, min}
 use native.Mathlib.Omega.{arith}
-use lib.ListN.{length, take, drop}
-use lib.Seq.{ext-getD, take-take}
+use lib.ListN.{length}
+use lib.Seq.{ext-getD}
 use Rattle.layout.specs.Sizes.{record-bytes, block-bytes, block-records, block-record-bytes}
-use Rattle.layout.specs.Bytes.{byte, word, part, check, all-zero}
-use Rattle.layout.specs.Blocks.{unsealed, sealed}
+use Rattle.layout.specs.Bytes.{byte, part, all-zero}
+use Rattle.layout.specs.Blocks.{sealed}
 use Rattle.layout.specs.Converters.{records}
 use Rattle.files.specs.Files.{converter-kind, blocks, file-count, file-place, file-records, blocks-for, written-block, written}
 use Rattle.refusals.specs.Refusals.{record-right, records-right}
 use Rattle.layout.proofs.Tables.{every-true, entry}
-use Rattle.layout.proofs.Parts.{byte-part, zeros}
-use Rattle.files.proofs.SealedBytes.{unsealed-kind, unsealed-count, unsealed-low, unsealed-high, unsealed-record, unsealed-zero, take-sealed, sealed-byte, sealed-low, sealed-high}
+use Rattle.layout.proofs.Parts.{byte-part}
+use Rattle.layout.proofs.SealedBlocks.{Stands, stands}
 use Rattle.refusals.proofs.Accepted.{Accepted}
 use Rattle.files.proofs.WrittenFile.{block-part, length-block-part, length-first-blocks, block-of}
 use Rattle.files.proofs.FileSizes.{Sized}
@@ -42,9 +42,6 @@ module _ (cs : List ℕ) (a : Accepted cs) where
     abbrev rs : List ℕ
     rs = part cs (block-record-bytes * k) block-record-bytes
 
-    abbrev u : List ℕ
-    u = unsealed converter-kind m (block-records * k) rs
-
     length-rs : length rs ≡ record-bytes * m
     length-rs = ap length (block-part cs a k h) ∙ length-block-part cs a k h
 
@@ -55,54 +52,17 @@ module _ (cs : List ℕ) (a : Accepted cs) where
     unfolding written written-block
     here = block-of cs a (blocks-for (records cs)) k h (omega arith)
 
-    at-byte : (i : ℕ) → i < 512 → byte file (block-bytes * k + i) ≡ byte (sealed converter-kind m (block-records * k) rs) i
-    at-byte i l = sym (byte-part file (block-bytes * k) block-bytes i l) ∙ ap (λ b. byte b i) here
-
-    -- before its check
-    at-unsealed : (i : ℕ) → i < 510 → byte file (block-bytes * k + i) ≡ byte u i
-    at-unsealed i l = at-byte i (omega arith) ∙ sealed-byte converter-kind m (block-records * k) rs fits i l
-
-    part-unsealed : part file (block-bytes * k) 510 ≡ u
-    part-unsealed = sym (take-take 510 block-bytes (drop (block-bytes * k) file) (omega arith)) ∙ ap (take 510) here ∙ take-sealed converter-kind m (block-records * k) rs fits
-
-    first-byte : byte file (block-bytes * k) ≡ converter-kind
-    first-byte =
-        let z : block-bytes * k ≡ block-bytes * k + 0 = omega arith in
-        ap (byte file) z ∙ at-unsealed 0 (omega arith) ∙ unsealed-kind converter-kind m (block-records * k) rs fits
-
-    second-byte : byte file (block-bytes * k + 1) ≡ m
-    second-byte = at-unsealed 1 (omega arith) ∙ unsealed-count converter-kind m (block-records * k) rs fits
-
-    first-word : word file (block-bytes * k + 2) ≡ block-records * k
-    first-word =
-        let z : block-bytes * k + 2 + 1 ≡ block-bytes * k + 3 = omega arith in
-        let x = at-unsealed 2 (omega arith) ∙ unsealed-low converter-kind m (block-records * k) rs fits in
-        let y = ap (byte file) z ∙ at-unsealed 3 (omega arith) ∙ unsealed-high converter-kind m (block-records * k) rs fits in
-        omega arith
-
-    check-word : word file (block-bytes * k + 510) ≡ check (part file (block-bytes * k) 510)
-    check-word =
-        let z : block-bytes * k + 510 + 1 ≡ block-bytes * k + 511 = omega arith in
-        let x = at-byte 510 (omega arith) in
-        let y = ap (byte file) z ∙ at-byte 511 (omega arith) in
-        let v = sealed-low converter-kind m (block-records * k) rs fits in
-        let w = sealed-high converter-kind m (block-records * k) rs fits in
-        let c = ap check part-unsealed in
-        omega arith
+    stands-here : Stands converter-kind m (block-records * k) rs file (block-bytes * k)
+    stands-here = stands converter-kind m (block-records * k) rs fits file (block-bytes * k) here
 
     -- byte i of its records, and zeros behind them
     record-byte : (i : ℕ) → i < record-bytes * m → byte file (block-bytes * k + (4 + i)) ≡ byte cs (block-record-bytes * k + i)
     record-byte i l =
-        at-unsealed (4 + i) (omega arith)
-        ∙ unsealed-record converter-kind m (block-records * k) rs fits i (omega (arith, length-rs))
-        ∙ byte-part cs (block-record-bytes * k) block-record-bytes i (omega arith)
+        stands-here .records-right i (omega (arith, length-rs)) ∙ byte-part cs (block-record-bytes * k) block-record-bytes i (omega arith)
 
-    zero-byte : (i : ℕ) → i < 506 - record-bytes * m → byte file (block-bytes * k + 4 + record-bytes * m + i) ≡ 0
-    zero-byte i l =
-        let z : block-bytes * k + 4 + record-bytes * m + i ≡ block-bytes * k + (4 + (record-bytes * m + i)) = omega arith in
-        ap (byte file) z
-        ∙ at-unsealed (4 + (record-bytes * m + i)) (omega arith)
-        ∙ unsealed-zero converter-kind m (block-records * k) rs fits (record-bytes * m + i) (omega (arith, length-rs)) (omega arith)
+    zeros-behind : all-zero (part file (block-bytes * k + 4 + record-bytes * m) (506 - record-bytes * m)) ≡ true
+    zeros-behind =
+        ap (λ n. all-zero (part file (block-bytes * k + 4 + n) (506 - n))) (sym length-rs) ∙ stands-here .zeros-behind
 
   -- ---- the file
   size : Sized file
@@ -117,13 +77,13 @@ module _ (cs : List ℕ) (a : Accepted cs) where
       let s = a .some-record in
       let e = blocks-written in
       let l : blocks file - 1 < blocks-for (records cs) = omega arith in
-      omega (arith, second-byte (blocks file - 1) l)
+      omega (arith, stands-here (blocks file - 1) l .count-right)
 
   pass : BlocksPass file
   pass =
       record {
-        checks = λ k h. check-passes file (blocks file) k (check-word k (below k h));
-        headers = λ k h. header-passes file (blocks file) k (first-byte k (below k h)) (first-word k (below k h));
+        checks = λ k h. check-passes file (blocks file) k (stands-here k (below k h) .check-right);
+        headers = λ k h. header-passes file (blocks file) k (stands-here k (below k h) .kind-right) (stands-here k (below k h) .first-right);
         counts = λ k h. count-passes file (blocks file) k (counts k (below k h));
         few-records = omega (arith, count-written, a .at-most);
         unused-bytes = λ k h. unused-behind file (blocks file) k ∙ unused k (below k h);
@@ -135,12 +95,12 @@ module _ (cs : List ℕ) (a : Accepted cs) where
       unused : (k : ℕ) (h : k < blocks-for (records cs))
           → all-zero (part file (block-bytes * k + 4 + record-bytes * byte file (block-bytes * k + 1)) (506 - record-bytes * byte file (block-bytes * k + 1))) ≡ true
       unused k h =
-          ap (λ c. all-zero (part file (block-bytes * k + 4 + record-bytes * c) (506 - record-bytes * c))) (second-byte k h)
-          ∙ zeros file (block-bytes * k + 4 + record-bytes * m k h) (506 - record-bytes * m k h) (omega (arith, length-written)) (zero-byte k h)
+          ap (λ c. all-zero (part file (block-bytes * k + 4 + record-bytes * c) (506 - record-bytes * c))) (stands-here k h .count-right)
+          ∙ zeros-behind k h
 
       counts : (k : ℕ) → k < blocks-for (records cs) → Counted file (blocks file) k
       counts k h =
-          let e = second-byte k h in
+          let e = stands-here k h .count-right in
           record { some-record = omega arith; at-most = omega arith; full = λ n. omega (arith, blocks-written) }
 
   pub read-back : file-records file ≡ cs

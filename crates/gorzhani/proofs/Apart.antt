@@ -17,6 +17,7 @@ use Rattle.model.specs.Judged.{Verdict as Judgement, accepted, unmatched, viola
 use Rattle.model.specs.Runs.{first-fit}
 use Rattle.layout.specs.Designs.{design}
 use Rattle.layout.specs.Converters.{converter}
+use Rattle.refusals.proofs.ByRefusal.{where-none, where-some}
 use Rattle.search.specs.declared.Outcome.{Outcome}
 use Rattle.search.specs.declared.Outcome.the-variants as outcome
 use Rattle.search.specs.Search as search
@@ -30,7 +31,6 @@ use Rattle.runner.specs.Ticks.{tick-refusal, taken, ticked}
 use Rattle.runner.proofs.Refusals.{goes-on, stays}
 use Rattle.gorzhani.specs.Codes.{refusal-code, search-code, judge-code, tick-code}
 use Rattle.gorzhani.specs.Calls.{SearchCall, JudgeCall, TickCall}
-use Rattle.gorzhani.proofs.ByRefusal.{where-none, where-some}
 
 -- ---- the numbers: a refusal that isn't 0 is no count, and no other refusal
 no-count : (k n : ℕ) → refusal-code k ≡ pos n → k ≡ 0
@@ -49,6 +49,14 @@ counts-exactly r k m passes refuses n = (λ e. by e (ℕ-discrete k 0), λ p. pa
     by : r ≡ pos n → Dec (k ≡ 0) → (k ≡ 0) × (n ≡ m)
     by e (yes z) = (z, cc (passes z))
     by e (no x) = absurd (x (no-count k n (sym (refuses x) ∙ e)))
+
+-- and it is the refusal n, not 0, exactly where k is n
+pub refuses-exactly : (r : ℤ) (k m : ℕ) → (k ≡ 0 → r ≡ pos m) → ((k ≡ 0 → ⊥) → r ≡ refusal-code k) → (n : ℕ) → 0 < n → (r ≡ refusal-code n) ↔ (k ≡ n)
+refuses-exactly r k m passes refuses n h = (λ e. by e (ℕ-discrete k 0), λ e. refuses (λ z. omega arith) ∙ ap refusal-code e)
+  where
+    by : r ≡ refusal-code n → Dec (k ≡ 0) → k ≡ n
+    by e (yes z) = let w = no-count n m (sym e ∙ passes z) in absurd (omega arith)
+    by e (no x) = same-refusal k n (sym (refuses x) ∙ e)
 
 -- ---- the search
 found-number : (a : Outcome) (n : ℕ) → (a ≡ outcome.Refused 0 → ⊥) → search-code a ≡ pos n → a ≡ outcome.Found n

@@ -1,7 +1,7 @@
 -- What a number means to a caller in C, for every input and from the call's promise alone (`Calls`): when the judge's is 0, -14 or -15; when the search's is -16,
--- and what stands in the table where it is a count; when the tick's is 0; when the writer's, the block reader's and that of `gorzhani_positions` are counts; and how
--- much a search is lent that no refusal comes before its decision.
-use mathlib.Core.Path.{_≡_, refl, ap, _∙_}
+-- and what stands in the table where it is a count; when the tick's is 0; when the writer's, the block reader's and that of `gorzhani_positions` are counts; when that of
+-- `gorzhani_ranges` is 0, and what then stands at the front of the result; and how much a search is lent that no refusal comes before its decision.
+use mathlib.Core.Path.{_≡_, refl, sym, ap, _∙_}
 use mathlib.Core.List.{List}
 use mathlib.Core.Logic.{_↔_, Iff·trans, _⊎_, inl, inr}
 use Prim.Native.Nat.{ℕ, _*_, _≤_, _<_}
@@ -13,17 +13,19 @@ use Rattle.model.specs.Events.{Event}
 use Rattle.model.specs.Converters.{Matched}
 use Rattle.model.specs.Designs.{Works, NoneWorks}
 use Rattle.model.specs.Positions.{positions}
+use Rattle.model.specs.Ranges.{Takes, TakesUnder, entered}
 use Rattle.model.proofs.Judged.{FailsRule}
 use Rattle.files.specs.declared.answers.Written.the-variants as written
 use Rattle.files.specs.declared.answers.Read.the-variants as read
-use Rattle.layout.specs.Sizes.{record-bytes, most-positions, cell-bytes}
-use Rattle.layout.specs.Bytes.{put}
-use Rattle.layout.specs.Designs.{design}
+use Rattle.layout.specs.Sizes.{side-count, record-bytes, most-positions, cell-bytes}
+use Rattle.layout.specs.Bytes.{part, put}
+use Rattle.layout.specs.Designs.{design, side}
 use Rattle.layout.specs.Converters.{records, converter}
 use Rattle.files.specs.Files.{file-count, file-records, blocks-for, written}
-use Rattle.refusals.specs.Refusals.{first-failing}
+use Rattle.refusals.specs.Refusals.{first-failing, design-refusal}
 use Rattle.files.specs.FileRefusals.{write-refusal, read-refusal}
 use Rattle.refusals.proofs.Accepted.{accepted}
+use Rattle.refusals.proofs.ByRefusal.{where-none, where-some}
 use Rattle.search.specs.Search.{search-refusal, Finding, declined, none, found, answer-of, Searches}
 use Rattle.search.proofs.Answers.{FoundIn, none-exactly, found-in}
 use Rattle.search.proofs.Refused as refused
@@ -33,10 +35,13 @@ use Rattle.runner.specs.declared.Runner.{Runner}
 use Rattle.runner.specs.declared.Answer.the-variants.{Done, Refused}
 use Rattle.runner.specs.Ticks.{ticked}
 use Rattle.runner.proofs.Refusals.{refused-unchanged}
-use Rattle.gorzhani.specs.Codes.{refusal-code, search-code, write-code, read-code}
-use Rattle.gorzhani.specs.Calls.{positions-refusal, positions-number, SearchCall, JudgeCall, WriteCall, ReadCall, TickCall}
-use Rattle.gorzhani.proofs.ByRefusal.{where-none, where-some}
-use Rattle.gorzhani.proofs.Apart.{counts-exactly, search-finds, search-declines, judge-accepts, judge-declines, tick-does, tick-declines}
+use Rattle.ranges.specs.declared.Answer.the-variants as replaced
+use Rattle.ranges.specs.Entries.{side-ranges}
+use Rattle.ranges.specs.Ranges.{ranges-refusal, ranged-design, Ranges}
+use Rattle.ranges.proofs.Promise.{written as written-there, result-passes, result-runs}
+use Rattle.gorzhani.specs.Codes.{refusal-code, search-code, write-code, read-code, ranges-code}
+use Rattle.gorzhani.specs.Calls.{positions-refusal, positions-number, SearchCall, JudgeCall, WriteCall, ReadCall, TickCall, RangesCall}
+use Rattle.gorzhani.proofs.Apart.{counts-exactly, refuses-exactly, search-finds, search-declines, judge-accepts, judge-declines, tick-does, tick-declines}
 use Rattle.gorzhani.proofs.Positions.{taken, some-position, number-taken, number-refused}
 
 -- ---- the judge
@@ -125,6 +130,43 @@ module _ {bs lent lent′ : List ℕ} {r : ℤ} (R : ReadCall bs lent r lent′)
 
   pub read-leaves : (n : ℕ) → r ≡ pos n → lent′ ≡ put lent 0 (file-records bs)
   read-leaves n e = R .leaves-converter ∙ where-none read-refused (put lent 0 (file-records bs)) lent (read-counts n .0 e .0)
+
+-- ---- waits known by range
+module _ {ds es lent lent′ : List ℕ} {r : ℤ} (R : RangesCall ds es lent r lent′) where
+  abbrev declined-by : ℕ
+  declined-by = ranges-refusal ds es (length lent)
+
+  is-done : declined-by ≡ 0 → r ≡ pos 0
+  is-done z = R .number ∙ ap ranges-code (where-none declined-by replaced.Done (replaced.Refused declined-by) z)
+
+  is-refusal : (declined-by ≡ 0 → ⊥) → r ≡ refusal-code declined-by
+  is-refusal n = R .number ∙ ap ranges-code (where-some declined-by replaced.Done (replaced.Refused declined-by) n)
+
+  -- 0: nothing is refused
+  pub ranges-done : (r ≡ pos 0) ↔ (ranges-refusal ds es (length lent) ≡ 0)
+  ranges-done = (λ e. counts-exactly r declined-by 0 is-done is-refusal 0 .0 e .0, is-done)
+
+  -- -k: it is refused with k, and all is as it was
+  pub ranges-refused : (k : ℕ) → 0 < k → (r ≡ refusal-code k) ↔ ((ranges-refusal ds es (length lent) ≡ k) × (lent′ ≡ lent))
+  ranges-refused k h =
+      let is = refuses-exactly r declined-by 0 is-done is-refusal k h in
+      (λ e. (is .0 e, R .leaves-result ∙ where-some declined-by (put lent 0 (ranged-design ds es)) lent (λ z. omega (arith, is .0 e))), λ p. is .1 (p .0))
+
+  module _ (e : r ≡ pos 0) where
+    -- what the call itself promises
+    replaces : Ranges ds es lent replaced.Done lent′
+    replaces = record { answers = sym (where-none declined-by replaced.Done (replaced.Refused declined-by) (ranges-done .0 e)); leaves = R .leaves-result }
+
+    -- then the new design is at the front of what was lent, is not refused itself, and each side runs as the ranges allow the old one
+    pub ranges-leaves : lent′ ≡ put lent 0 (ranged-design ds es)
+    ranges-leaves = written-there ds es lent lent′ replaces
+
+    pub ranges-passes : design-refusal (part lent′ 0 (length ds)) ≡ 0
+    ranges-passes = result-passes ds es lent lent′ replaces
+
+    pub ranges-runs : (i : ℕ) → i < side-count → (evs : List Event) (ws : List ℕ)
+        → Takes (side (design (part lent′ 0 (length ds))) i) 0 evs ws ↔ TakesUnder (side (design ds) i) (side-ranges es i) (entered 0) evs ws
+    ranges-runs = result-runs ds es lent lent′ replaces
 
 -- ---- the positions
 module _ (ds : List ℕ) where

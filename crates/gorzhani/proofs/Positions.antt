@@ -16,9 +16,9 @@ use Rattle.refusals.proofs.Passing.{passed, refused-first, refused-later, none-
 use Rattle.refusals.proofs.WellFormed.{accepted-counts}
 use Rattle.positions.proofs.PositionCount.{some-joint}
 use Rattle.refusals.specs.Counted.{Accepted}
+use Rattle.refusals.proofs.ByRefusal.{where-none, where-some}
 use Rattle.gorzhani.specs.Codes.{refusal-code}
 use Rattle.gorzhani.specs.Calls.{positions-refusal, positions-number}
-use Rattle.gorzhani.proofs.ByRefusal.{where-none, where-some}
 
 module _ (ds : List ℕ) where
   pub refused-by-design : (design-refusal ds ≡ 0 → ⊥) → positions-refusal ds ≡ design-refusal ds

@@ -14,8 +14,10 @@ use Rattle.judge.specs.Judge.{Judges}
 use Rattle.runner.specs.declared.Runner.{Runner}
 use Rattle.runner.specs.declared.Answer.{Answer}
 use Rattle.runner.specs.Ticks.{Ticks}
-use Rattle.gorzhani.specs.Codes.{search-code, judge-code, write-code, read-code, tick-code}
-use Rattle.gorzhani.specs.Calls.{SearchCall, JudgeCall, WriteCall, ReadCall, TickCall}
+use Rattle.ranges.specs.declared.Answer.{Answer as Replaced}
+use Rattle.ranges.specs.Ranges.{Ranges}
+use Rattle.gorzhani.specs.Codes.{search-code, judge-code, write-code, read-code, tick-code, ranges-code}
+use Rattle.gorzhani.specs.Calls.{SearchCall, JudgeCall, WriteCall, ReadCall, TickCall, RangesCall}
 
 module _ {r : ℤ} where
   pub search-promised : {ds table work table′ work′ : List ℕ} {a : Outcome} → Searches ds table work a table′ work′ → r ≡ search-code a → SearchCall ds table work r table′ work′
@@ -38,3 +40,6 @@ module _ {r : ℤ} where
 
   pub tick-promised : {cs : List ℕ} {runner runner′ : Runner} {xs : List Event} {a : Answer} → Ticks cs runner xs a runner′ → r ≡ tick-code a → TickCall cs runner xs r runner′
   tick-promised p e = record { number = e ∙ ap tick-code (p .answers); leaves-runner = p .leaves }
+
+  pub ranges-promised : {ds es result result′ : List ℕ} {a : Replaced} → Ranges ds es result a result′ → r ≡ ranges-code a → RangesCall ds es result r result′
+  ranges-promised p e = record { number = e ∙ ap ranges-code (p .answers); leaves-result = p .leaves }

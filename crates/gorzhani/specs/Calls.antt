@@ -19,7 +19,8 @@ use Rattle.search.specs.Search.{search-refusal, Finding, answer-of, table-of, w
 use Rattle.judge.specs.Judge.{judge-answer, judge-work}
 use Rattle.runner.specs.declared.Runner.{Runner}
 use Rattle.runner.specs.Ticks.{ticked}
-use Rattle.gorzhani.specs.Codes.{refusal-code, search-code, judge-code, write-code, read-code, tick-code}
+use Rattle.ranges.specs.Ranges.{ranges-refusal, ranges-answer, ranged-design}
+use Rattle.gorzhani.specs.Codes.{refusal-code, search-code, judge-code, write-code, read-code, tick-code, ranges-code}
 
 -- ---- gorzhani_positions: the positions of a design ds, or the first of 1 to 9 that refuses it
 unfoldable pub positions-refusal : List ℕ → ℕ
@@ -60,3 +61,9 @@ pub record TickCall (cs : List ℕ) (runner : Runner) (xs : List Event) (r : ℤ
   -- 0 for "done", or the refusal
   pub number : r ≡ tick-code (ticked cs runner xs .answer)
   pub leaves-runner : runner′ ≡ ticked cs runner xs .runner
+
+-- ---- gorzhani_ranges: a design ds, a list of entries es; the bytes lent for the new design before, and after
+pub record RangesCall (ds es result : List ℕ) (r : ℤ) (result′ : List ℕ) : Type 0 where
+  -- 0 for "done", or the refusal
+  pub number : r ≡ ranges-code (ranges-answer ds es (length result))
+  pub leaves-result : result′ ≡ left-by (ranges-refusal ds es (length result)) result (ranged-design ds es)

@@ -11,6 +11,8 @@ use Rattle.judge.specs.declared.Verdict.{Verdict}
 use Rattle.judge.specs.declared.Verdict.the-variants as verdict
 use Rattle.runner.specs.declared.Answer.{Answer}
 use Rattle.runner.specs.declared.Answer.the-variants as tick
+use Rattle.ranges.specs.declared.Answer.{Answer as Replaced}
+use Rattle.ranges.specs.declared.Answer.the-variants as replaced
 
 abbrev pub refusal-code : ℕ → ℤ
 refusal-code k = negℤ (pos k)
@@ -34,3 +36,7 @@ read-code (read.Refused k) = refusal-code k
 abbrev pub tick-code : Answer → ℤ
 tick-code tick.Done = pos 0
 tick-code (tick.Refused k) = refusal-code k
+
+abbrev pub ranges-code : Replaced → ℤ
+ranges-code replaced.Done = pos 0
+ranges-code (replaced.Refused k) = refusal-code k

@@ -6,7 +6,7 @@ ghost use Prim.Native.Nat.{_≤_};
 ghost use lib.IntN.{pos};
 ghost use Rattle.layout.specs.Sizes.{most-records};
 ghost use Rattle.gorzhani.specs.Codes.{refusal-code, tick-code};
-ghost use Rattle.gorzhani.specs.Calls.{positions-refusal, positions-number, SearchCall, JudgeCall, WriteCall, ReadCall, TickCall};
+ghost use Rattle.gorzhani.specs.Calls.{positions-refusal, positions-number, SearchCall, JudgeCall, WriteCall, ReadCall, TickCall, RangesCall};
 use files::answers::Read;
 use files::answers::Written;
 use files::reader;
@@ -130,4 +130,16 @@ pub extern "C" fn gorzhani_tick(
     ensures { λ r. ⌜ TickCall (now (converter .entry)) (now (runner .entry)) (first ∷ second ∷ third ∷ []) r (now (runner .exit)) ⌝ }
 {
     tick_code(runner::tick(converter, runner, first, second, third))
+}
+
+// Waits known by range: 0 where the new design is written.
+#[no_mangle]
+pub extern "C" fn gorzhani_ranges(design: &[u8], entries: &[u8], result: &mut [u8]) -> i32
+    ensures { λ r. ⌜ RangesCall (now (design .entry)) (now (entries .entry)) (now (result .entry)) r (now (result .exit)) ⌝ }
+{
+    let answer = ranges::ranges(design, entries, result);
+    match answer {
+        ranges::Answer::Done => 0,
+        ranges::Answer::Refused(k) => refused(k),
+    }
 }

@@ -3,11 +3,17 @@ pub mod Tables
 pub mod DesignBytes
 pub mod Parts
 pub mod Pieces
+pub mod EqualPieces
 pub mod Put
 pub mod SignedBytes
 pub mod RecordBytes
+pub mod RecordMoves
+pub mod StateBytes
 pub mod FormulaRecords
 pub mod ConverterBytes
 pub mod Nodes
 pub mod Sealed
+pub mod SealedBytes
+pub mod SealedBlocks
+pub mod Resealed
 pub mod Made

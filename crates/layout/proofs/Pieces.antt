@@ -1,8 +1,8 @@
--- Pieces of bytes one after another, made by number (`flatten` of a table): one piece more, and the length where all are of one size.
+-- Pieces of a list one after another, made by number (`flatten` of a table): one piece more, and the length where all are of one size.
 use mathlib.Core.Path.{_≡_, sym, ap, ap₂, _∙_}
 use mathlib.Core.List.{List, [], _∷_, _++_, flatten, append-assoc, append-nil}
-use Prim.Native.Nat.{ℕ, zero, suc, _+_, _*_}
-use native.Mathlib.Nat.{add-comm, mul-zero, mul-suc}
+use Prim.Native.Nat.{ℕ, zero, suc, _+_, _*_, _<_}
+use native.Mathlib.Nat.{mul-zero, mul-suc}
 use native.Mathlib.Numerals.{add-one}
 use native.Mathlib.Omega.{arith}
 use lib.ListN.{length, length-append}
@@ -18,26 +18,27 @@ pub table-more : {A : Type 0} (f : ℕ → A) (n : ℕ) → table (n + 1) f ≡ 
 unfolding table
 table-more f n = ap (table-from f 0) (add-one n) ∙ table-from-more f 0 n ∙ ap (λ j. table-from f 0 n ++ (f j ∷ [])) (omega arith)
 
-flatten-more : (ls : List (List ℕ)) (l : List ℕ) → flatten (ls ++ (l ∷ [])) ≡ flatten ls ++ l
+flatten-more : {A : Type 0} (ls : List (List A)) (l : List A) → flatten (ls ++ (l ∷ [])) ≡ flatten ls ++ l
 unfolding flatten
 flatten-more [] l = append-nil l
 flatten-more (x ∷ ls) l = ap (λ r. x ++ r) (flatten-more ls l) ∙ sym (append-assoc x (flatten ls) l)
 
-module _ (g : ℕ → List ℕ) where
+module _ {A : Type 0} (g : ℕ → List A) where
   -- one piece more
   pub pieces-more : (n : ℕ) → flatten (table (n + 1) g) ≡ flatten (table n g) ++ g n
   pieces-more n = ap flatten (table-more g n) ∙ flatten-more (table n g) (g n)
 
-  length-pieces-from : (w : ℕ) → ((k : ℕ) → length (g k) ≡ w) → (i n : ℕ) → length (flatten (table-from g i n)) ≡ w * n
-  unfolding flatten table-from
-  length-pieces-from w e i zero = sym (mul-zero w)
-  length-pieces-from w e i (suc n) =
-      length-append (g i) (flatten (table-from g (suc i) n))
-      ∙ ap₂ _+_ (e i) (length-pieces-from w e (suc i) n)
-      ∙ add-comm w (w * n)
+  -- pieces of one size, where it is that of the first n
+  pub length-first : (w n : ℕ) → ((k : ℕ) → k < n → length (g k) ≡ w) → length (flatten (table n g)) ≡ w * n
+  unfolding table table-from flatten
+  length-first w zero e = sym (mul-zero w)
+  length-first w (suc n) e =
+      ap (λ j. length (flatten (table j g))) (sym (add-one n))
+      ∙ ap length (pieces-more n)
+      ∙ length-append (flatten (table n g)) (g n)
+      ∙ ap₂ _+_ (length-first w n (λ k h. e k (omega arith))) (e n (omega arith))
       ∙ sym (mul-suc w n)
 
-  -- pieces of one size
+  -- and where it is that of all
   pub length-pieces : (w : ℕ) → ((k : ℕ) → length (g k) ≡ w) → (n : ℕ) → length (flatten (table n g)) ≡ w * n
-  unfolding table
-  length-pieces w e n = length-pieces-from w e 0 n
+  length-pieces w e n = length-first w n (λ k h. e k)

@@ -1,17 +1,18 @@
--- Signed bytes: what the machine's comparisons and differences of `i8` say of the numbers.
+-- Signed bytes: what the machine's comparisons and differences of `i8` say of the numbers; and an event, read from its byte.
 use mathlib.Core.Path.{_≡_, refl, sym, ap, _∙_}
-use mathlib.Core.Bool.{true, false, false≢true, true≢false}
+use mathlib.Core.Bool.{Bool, true, false, cond, false≢true, true≢false}
 use Prim.Native.Nat.{ℕ, zero, suc, _-_, _≤_, _<_}
 use native.Mathlib.Omega.{arith}
-use native.Mathlib.Decide.{ℕ-discrete}
-use borrow.Author.Tests.{ltb-true, ltb-false, le-ltb, eq-eqb, ne-eqb, le-leb, lt-leb}
+use native.Mathlib.Decide.{ℕ-discrete, decLt}
+use borrow.Author.Tests.{ltb-true, ltb-false, lt-ltb, le-ltb, eq-eqb, ne-eqb, le-leb, lt-leb}
 use lib.Dec.{eqb, leb, leb·zero}
 use lib.IntN.{ℤ, pos, negsuc, negℤ, natAbs, _-ℤ_, +ℤ-idl}
 use lib.Signed.{mag, ltZ, leZ}
 use mir.Syntax.{w8}
 use mir.Val.{SFits, ofZ, toZ}
 use mir.ValLaws.{toZ-ofZ}
-use Rattle.model.specs.Events.{sent, same-event}
+use Rattle.model.specs.Events.{Event, InRange, sent, same-event}
+use Rattle.layout.specs.Bytes.{event-of, event-byte}
 
 -- the machine reads a number back from its bits
 pub read-back : (e : ℤ) → mag e < 128 → toZ w8 (ofZ w8 e) ≡ e
@@ -64,6 +65,23 @@ same-bits (negsuc m) (negsuc n) f g = eqb-both (256 - suc m) (256 - suc n) m n (
 same-bits (pos m) (negsuc n) f g = ne-eqb m (256 - suc n) (λ p. omega (arith, f .sfits, g .sfits))
 same-bits (negsuc m) (pos n) f g = ne-eqb (256 - suc m) n (λ p. omega (arith, f .sfits, g .sfits))
 
+-- ---- an event and its byte
+-- an event in range is read back from its byte, and a byte from its event
+pub event-back : (e : Event) → InRange e → event-of (event-byte e) ≡ e
+unfolding event-of event-byte
+event-back (pos n) h = ap (λ (b : Bool). cond b (pos n) (negsuc (255 - n))) (lt-ltb n 128 (omega arith))
+event-back (negsuc n) h =
+    ap (λ (b : Bool). cond b (pos (255 - n)) (negsuc (255 - (255 - n)))) (le-ltb (255 - n) 128 (omega arith)) ∙ ap negsuc (omega arith)
+
+pub byte-back : (b : ℕ) → b < 256 → event-byte (event-of b) ≡ b
+unfolding event-of event-byte
+byte-back b h = by (decLt b 128)
+  where
+    by : Dec (b < 128) → event-byte (event-of b) ≡ b
+    by (yes l) = ap (λ (t : Bool). event-byte (cond t (pos b) (negsuc (255 - b)))) (lt-ltb b 128 l)
+    by (no l) = ap (λ (t : Bool). event-byte (cond t (pos b) (negsuc (255 - b)))) (le-ltb b 128 (omega arith)) ∙ omega arith
+
+-- ---- the range
 -- below -63, and up to 63
 pub too-low : (e : ℤ) → ltZ e (negsuc 62) ≡ true → leb (natAbs e) 63 ≡ false
 too-low (pos n) t = absurd (false≢true t)

@@ -1,7 +1,7 @@
 -- Tables by number and tests over them: length, entries, and how a loop that tests one number after another finds the answer.
-use mathlib.Core.Path.{_≡_, refl, sym, ap, subst, subst⁻¹, _∙_}
+use mathlib.Core.Path.{_≡_, refl, sym, ap, ap₂, subst, subst⁻¹, _∙_}
 use mathlib.Core.Bool.{Bool, true, false, not, _&&_}
-use mathlib.Core.List.{List, map}
+use mathlib.Core.List.{List, _∷_, map}
 use Prim.Native.Nat.{ℕ, zero, suc, _+_, _≤_, _<_}
 use native.Mathlib.Nat.{not-suc-le-zero}
 use native.Mathlib.Decide.{ℕ-discrete, decLt}
@@ -119,6 +119,19 @@ module _ {A : Type 0} (f : ℕ → A) where
   pub entry : (d : A) (n k : ℕ) → k < n → getD (table n f) k d ≡ f k
   unfolding table
   entry d n k h = entry-from d 0 n k h ∙ ap f (omega arith)
+
+-- tables of the same entries
+from-same : {A : Type 0} (f g : ℕ → A) (i n : ℕ) → ((k : ℕ) → k < n → f (i + k) ≡ g (i + k)) → table-from f i n ≡ table-from g i n
+unfolding table-from
+from-same f g i zero e = refl
+from-same f g i (suc n) e =
+    let z : i + 0 ≡ i = omega arith in
+    ap₂ _∷_ (sym (ap f z) ∙ e 0 (omega arith) ∙ ap g z)
+    (from-same f g (suc i) n (λ k h. let s : i + suc k ≡ suc i + k = omega arith in sym (ap f s) ∙ e (suc k) (omega arith) ∙ ap g s))
+
+pub table-same : {A : Type 0} (f g : ℕ → A) (n : ℕ) → ((k : ℕ) → k < n → f k ≡ g k) → table n f ≡ table n g
+unfolding table
+table-same f g n e = from-same f g 0 n (λ k h. let z : 0 + k ≡ k = omega arith in ap f z ∙ e k h ∙ sym (ap g z))
 
 -- a list is the table of its entries
 pub as-table : {A : Type 0} (d : A) (n : ℕ) (l : List A) → length l ≡ n → l ≡ table n (λ k. getD l k d)

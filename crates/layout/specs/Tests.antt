@@ -32,10 +32,10 @@ state-right n q =
 unfoldable pub side-right : Side → Bool
 side-right S = every (length S) (λ s. state-right (length S) (state S s))
 
--- ---- 6: state number s is input, output-only or delayed
--- the first of the two is sent, and the second ticks back to state s
-abbrev pub sends-or-waits : ℕ → Move → Move → Bool
-sends-or-waits s m w = sent (m .event) && same-event (w .event) tick && eqb (w .target) s
+-- ---- 6: a state is input, output-only or delayed
+-- the first of the two is sent, and the second is the tick
+abbrev pub sends-or-waits : Move → Move → Bool
+sends-or-waits m w = sent (m .event) && same-event (w .event) tick
 
 -- no sent event
 unfoldable pub is-input : State → Bool
@@ -45,15 +45,15 @@ is-input q = not (any-sent (q .moves))
 unfoldable pub is-output-only : State → Bool
 is-output-only q = eqb (length (q .moves)) 1 && any-sent (q .moves)
 
--- exactly two, one sent and a tick back to itself, in either order
-unfoldable pub is-delayed : ℕ → State → Bool
-is-delayed s q = eqb (length (q .moves)) 2 && (sends-or-waits s (move q 0) (move q 1) || sends-or-waits s (move q 1) (move q 0))
+-- exactly two, one sent and a tick, in either order
+unfoldable pub is-delayed : State → Bool
+is-delayed q = eqb (length (q .moves)) 2 && (sends-or-waits (move q 0) (move q 1) || sends-or-waits (move q 1) (move q 0))
 
-unfoldable pub kind-right : ℕ → State → Bool
-kind-right s q = is-input q || is-output-only q || is-delayed s q
+unfoldable pub kind-right : State → Bool
+kind-right q = is-input q || is-output-only q || is-delayed q
 
 unfoldable pub kinds-right : Side → Bool
-kinds-right S = every (length S) (λ s. kind-right s (state S s))
+kinds-right S = every (length S) (λ s. kind-right (state S s))
 
 -- ---- 7: of formula number k, operands that are lower and propositions up to the last
 unfoldable pub form-right : ℕ → Form → Bool

@@ -49,7 +49,7 @@ delayed? output-only = no (λ e. let z : _≡_ {A = ℕ} 0 1 = cc in omega arith
 delayed? delayed = yes refl
 
 -- the moves of a delayed state: one sent, and a tick
-module _ (s : ℕ) (q : State) (h : IsDelayed s q) where
+module _ (q : State) (h : IsDelayed q) where
   sends-or-ticks : (m : Move) → In m (q .moves) → (m ≡ h .0) ⊎ (m .event ≡ tick)
   sends-or-ticks m i = ⊎-elim (λ (e : m ≡ h .0). inl e) (λ (e : m ≡ h .1). inr (ap (λ (w : Move). w .event) e ∙ h .4)) (pair (h .0) (h .1) (q .moves) (h .2) m i)
 
@@ -64,37 +64,37 @@ module _ (s : ℕ) (q : State) (h : IsDelayed s q) where
   does-same false m w i j x y = x ∙ sym y
 
   move-for : (b : Bool) → (m : Move) × In m (q .moves) × Does b (m .event)
-  move-for true = (h .0, sends-in s q h, h .3)
-  move-for false = (h .1, ticks-in s q h, h .4)
+  move-for true = (h .0, sends-in q h, h .3)
+  move-for false = (h .1, ticks-in q h, h .4)
 
-module _ (k : Kind) (s : ℕ) (q : State) (h : IsKind k s q) where
-  abbrev as-delayed : k ≡ delayed → IsDelayed s q
-  as-delayed e = subst (λ (x : Kind). IsKind x s q) e h
+module _ (k : Kind) (q : State) (h : IsKind k q) where
+  abbrev as-delayed : k ≡ delayed → IsDelayed q
+  as-delayed e = subst (λ (x : Kind). IsKind x q) e h
 
   -- of moves m and w where m does as was chosen, w does so too exactly where it shows the same
   shown-chosen : (b : Bool) (m w : Move) → In m (q .moves) → In w (q .moves) → Chose k b (m .event) → (shown (w .event) ≡ shown (m .event)) ↔ Chose k b (w .event)
   shown-chosen b m w i j c = (
     (λ g e.
-        let is : kind q ≡ delayed = kind-only k s q h ∙ e in
-        let same : m ≡ w = show-known k s q h (λ n. let z : _≡_ {A = ℕ} 0 1 = cc in omega arith) m w i j (sym g) in
+        let is : kind q ≡ delayed = kind-only k q h ∙ e in
+        let same : m ≡ w = show-known k q h (λ n. let z : _≡_ {A = ℕ} 0 1 = cc in omega arith) m w i j (sym g) in
         rw same at (c e)),
     (λ d. by (delayed? k) d),
   )
     where
       by : Dec (k ≡ delayed) → Chose k b (w .event) → shown (w .event) ≡ shown (m .event)
-      by (yes e) d = ap shown (does-same s q (as-delayed e) b w m j i (d e) (c e))
-      by (no n) d = one-shown k s q h (λ e. n (sym (kind-only k s q h) ∙ e)) w m j i
+      by (yes e) d = ap shown (does-same q (as-delayed e) b w m j i (d e) (c e))
+      by (no n) d = one-shown k q h (λ e. n (sym (kind-only k q h) ∙ e)) w m j i
 
   -- each move does as some choice says
   own-choice : (m : Move) → In m (q .moves) → Chose k (sent (m .event)) (m .event)
-  own-choice m i e = does-own s q (as-delayed e) m i
+  own-choice m i e = does-own q (as-delayed e) m i
 
   -- and where there is a move, there is one for each choice
   choice-move : (m : Move) → In m (q .moves) → (b : Bool) → (w : Move) × In w (q .moves) × Chose k b (w .event)
   choice-move m i b = by (delayed? k)
     where
       by : Dec (k ≡ delayed) → (w : Move) × In w (q .moves) × Chose k b (w .event)
-      by (yes e) = let w = move-for s q (as-delayed e) b in (w .0, w .1, λ d. w .2)
+      by (yes e) = let w = move-for q (as-delayed e) b in (w .0, w .1, λ d. w .2)
       by (no n) = (m, i, λ e. absurd (n e))
 
 -- ---- all sides
@@ -114,7 +114,7 @@ shows-chosen nil nil nil bs l c = ((λ g i h. absurd (not-suc-le-zero h)), (λ d
 shows-chosen (cons h hs) (cons i is) (cons j js) [] l c = absurd (omega arith)
 shows-chosen (cons {S = S} {s = s} {x = k} {xs = ks} h hs) (cons {x = m} {xs = ms} i is) (cons {x = w} {xs = ws} j js) (b ∷ bs) l c =
     let u = first-and-others k ks b bs (m .event) (events ms) .0 c in
-    let one = shown-chosen k s (state S s) h b m w i j (u .0) in
+    let one = shown-chosen k (state S s) h b m w i j (u .0) in
     let rest = shows-chosen hs is js bs (omega arith) (u .1) in
     let parts = first-and-others k ks b bs (w .event) (events ws) in (
       (λ g.
@@ -135,7 +135,7 @@ own-choices nil nil = ([], refl, λ i h. absurd (not-suc-le-zero h))
 own-choices (cons {S = S} {s = s} {x = k} {xs = ks} h hs) (cons {x = m} {xs = ms} i is) =
     let r = own-choices hs is in
     let b = sent (m .event) in
-    (b ∷ r .0, ap suc (r .1), first-and-others k ks b (r .0) (m .event) (events ms) .1 (own-choice k s (state S s) h m i, r .2))
+    (b ∷ r .0, ap suc (r .1), first-and-others k ks b (r .0) (m .event) (events ms) .1 (own-choice k (state S s) h m i, r .2))
 
 -- and where there is one, there is one for each choice
 choice-moves : {Ss : List Side} {ss : List ℕ} {ks : List Kind} {ms : List Move} → OfKinds Ss ss ks → MoveOfEach Ss ss ms → (bs : List Bool) → length bs ≡ length ks
@@ -143,7 +143,7 @@ choice-moves : {Ss : List Side} {ss : List ℕ} {ks : List Kind} {ms : List Move
 choice-moves nil nil bs l = ([], nil, λ i h. absurd (not-suc-le-zero h))
 choice-moves (cons h hs) (cons i is) [] l = absurd (omega arith)
 choice-moves (cons {S = S} {s = s} {x = k} {xs = ks} h hs) (cons {x = m} i is) (b ∷ bs) l =
-    let w = choice-move k s (state S s) h m i b in
+    let w = choice-move k (state S s) h m i b in
     let r = choice-moves hs is bs (omega arith) in
     (w .0 ∷ r .0, cons (w .1) (r .1), first-and-others k ks b bs (w .0 .event) (events (r .0)) .1 (w .2, r .2))
 

@@ -7,7 +7,7 @@ use Prim.Native.Nat.{ℕ, zero, suc, _*_, _<_}
 use native.Mathlib.Nat.{not-suc-le-zero, le-of-suc-le-suc}
 use native.Mathlib.Omega.{arith}
 use lib.IntN.{natAbs}
-use lib.Dec.{T, T-not, not-T, leb, ltb, eqb, leb→le, ltb→lt, lt→ltb, eqb→eq}
+use lib.Dec.{T, T-not, not-T, leb, ltb, leb→le, ltb→lt, lt→ltb}
 use lib.ListN.{length, getD}
 use Rattle.model.specs.Events.{Event, tick, sent, same-event}
 use Rattle.model.specs.Sides.{Move, State, Side, state, no-move, input, output-only, delayed, any-sent, WellFormedState, HasKind, WellFormedSide}
@@ -20,7 +20,7 @@ use Rattle.model.proofs.Bools.{and-both, both-and, or-either}
 use Rattle.model.proofs.Lists.{all-in, in-any, getD-in}
 use Rattle.model.proofs.Count.{below-suc}
 use Rattle.model.proofs.StateKinds.{sent-any}
-use Rattle.model.proofs.SameEvent.{same-event-eq, same-event-refl}
+use Rattle.model.proofs.SameEvent.{same-event-refl, sent-and-tick}
 
 -- ---- the tests
 -- every number below n passes
@@ -37,24 +37,24 @@ distinct? (m ∷ ms) = not (any (λ w. same-event (m .event) (w .event)) ms) && 
 unfoldable pub state? : ℕ → State → Bool
 state? n q = leb 1 (length (q .moves)) && leb (length (q .moves)) 8 && all (λ m. leb (natAbs (m .event)) 63) (q .moves) && distinct? (q .moves) && all (λ m. ltb (m .target) n) (q .moves)
 
--- m is sent, and w is a tick back to s
-abbrev pub waiting? : ℕ → Move → Move → Bool
-waiting? s m w = sent (m .event) && same-event (w .event) tick && eqb (w .target) s
+-- m is sent, and w is the tick
+abbrev pub waiting? : Move → Move → Bool
+waiting? m w = sent (m .event) && same-event (w .event) tick
 
--- moves of a state that sends: one sent, or one sent and a tick back to itself
-unfoldable pub sends? : ℕ → List Move → Bool
-sends? s [] = false
-sends? s (m ∷ []) = sent (m .event)
-sends? s (m ∷ w ∷ []) = waiting? s m w || waiting? s w m
-sends? s (m ∷ w ∷ x ∷ ms) = false
+-- moves of a state that sends: one sent, or one sent and a tick
+unfoldable pub sends? : List Move → Bool
+sends? [] = false
+sends? (m ∷ []) = sent (m .event)
+sends? (m ∷ w ∷ []) = waiting? m w || waiting? w m
+sends? (m ∷ w ∷ x ∷ ms) = false
 
 -- refusal 6
-unfoldable pub kind? : ℕ → State → Bool
-kind? s q = not (any-sent (q .moves)) || sends? s (q .moves)
+unfoldable pub kind? : State → Bool
+kind? q = not (any-sent (q .moves)) || sends? (q .moves)
 
 -- a whole side
 unfoldable pub side? : Side → Bool
-side? S = leb 1 (length S) && leb (length S) 16 && all-below (λ s. state? (length S) (state S s)) (length S) && all-below (λ s. kind? s (state S s)) (length S)
+side? S = leb 1 (length S) && leb (length S) 16 && all-below (λ s. state? (length S) (state S s)) (length S) && all-below (λ s. kind? (state S s)) (length S)
 
 -- refusal 7: operands are lower
 unfoldable pub lower? : ℕ → Form → Bool
@@ -143,30 +143,24 @@ state-formed n q t =
       inside = λ m i. ltb→lt (m .target) n (all-in (λ m. ltb (m .target) n) i (u .1));
     }
 
-waiting-right : (s : ℕ) (m w : Move) → T (waiting? s m w) → T (sent (m .event)) × (w .event ≡ tick) × (w .target ≡ s)
-waiting-right s m w t =
-    let a = and-both (sent (m .event) && same-event (w .event) tick) (eqb (w .target) s) t in
-    let b = and-both (sent (m .event)) (same-event (w .event) tick) (a .0) in
-    (b .0, same-event-eq (w .event) tick (b .1), eqb→eq (w .target) s (a .1))
-
-sends-right : (s : ℕ) (q : State) (ms : List Move) → q .moves ≡ ms → T (sends? s ms) → HasKind s q
+sends-right : (q : State) (ms : List Move) → q .moves ≡ ms → T (sends? ms) → HasKind q
 unfolding sends?
-sends-right s q [] e t = absurd t
-sends-right s q (m ∷ []) e t = (output-only, (m, e, t))
-sends-right s q (m ∷ w ∷ []) e t =
+sends-right q [] e t = absurd t
+sends-right q (m ∷ []) e t = (output-only, (m, e, t))
+sends-right q (m ∷ w ∷ []) e t =
     ⊎-elim
-    (λ (x : T (waiting? s m w)). let r = waiting-right s m w x in (delayed, (m, w, inl e, r .0, r .1, r .2)))
-    (λ (x : T (waiting? s w m)). let r = waiting-right s w m x in (delayed, (w, m, inr e, r .0, r .1, r .2)))
-    (or-either (waiting? s m w) (waiting? s w m) t)
-sends-right s q (m ∷ w ∷ x ∷ ms) e t = absurd t
+    (λ (x : T (waiting? m w)). let r = sent-and-tick (m .event) (w .event) x in (delayed, (m, w, inl e, r .0, r .1)))
+    (λ (x : T (waiting? w m)). let r = sent-and-tick (w .event) (m .event) x in (delayed, (w, m, inr e, r .0, r .1)))
+    (or-either (waiting? m w) (waiting? w m) t)
+sends-right q (m ∷ w ∷ x ∷ ms) e t = absurd t
 
-kind-formed : (s : ℕ) (q : State) → T (kind? s q) → HasKind s q
+kind-formed : (q : State) → T (kind? q) → HasKind q
 unfolding kind?
-kind-formed s q t =
+kind-formed q t =
     ⊎-elim
     (λ (x : T (not (any-sent (q .moves)))). (input, λ m i. not-T (sent (m .event)) (λ y. T-not (any-sent (q .moves)) x (sent-any (q .moves) m i y))))
-    (λ (x : T (sends? s (q .moves))). sends-right s q (q .moves) refl x)
-    (or-either (not (any-sent (q .moves))) (sends? s (q .moves)) t)
+    (λ (x : T (sends? (q .moves))). sends-right q (q .moves) refl x)
+    (or-either (not (any-sent (q .moves))) (sends? (q .moves)) t)
 
 pub side-formed : (S : Side) → T (side? S) → WellFormedSide S
 unfolding side?
@@ -174,7 +168,7 @@ side-formed S t =
     let a = leb 1 (length S) in
     let b = leb (length S) 16 in
     let c = all-below (λ s. state? (length S) (state S s)) (length S) in
-    let d = all-below (λ s. kind? s (state S s)) (length S) in
+    let d = all-below (λ s. kind? (state S s)) (length S) in
     let u = and-both (a && b && c) d t in
     let w = and-both (a && b) c (u .0) in
     let x = and-both a b (w .0) in
@@ -182,10 +176,10 @@ side-formed S t =
       some-state = leb→le 1 (length S) (x .0);
       at-most-sixteen = leb→le (length S) 16 (x .1);
       each = λ s h. state-formed (length S) (state S s) (below-all (λ s. state? (length S) (state S s)) (length S) (w .1) s h);
-      kinds = λ s h. kind-formed s (state S s) (below-all (λ s. kind? s (state S s)) (length S) (u .1) s h);
+      kinds = λ s h. kind-formed (state S s) (below-all (λ s. kind? (state S s)) (length S) (u .1) s h);
     }
 
-two-lower : (a b k : ℕ) → T (ltb a k && ltb b k) → (a < k) × (b < k)
+pub two-lower : (a b k : ℕ) → T (ltb a k && ltb b k) → (a < k) × (b < k)
 two-lower a b k t = let w = and-both (ltb a k) (ltb b k) t in (ltb→lt a k (w .0), ltb→lt b k (w .1))
 
 lower-formed : (k : ℕ) (r : Form) → T (lower? k r) → LowerForm k r

@@ -1,6 +1,6 @@
 -- The theorems. A visitor reads first: `Judged` (the judge's answer is the path meaning), `Solved` (the method decides), `Runs` (every run is right),
--- `Lines` (the duty is what the specification's three lines ask), `Rested` (a resting side more changes no verdict), `Maps` (ACTL between systems) and `Rows`
--- (the starred rows of the specification).
+-- `Lines` (the duty is what the specification's three lines ask), `Rested` (a resting side more changes no verdict), `Ranges` (a table in which states count runs as
+-- the ranges allow), `Maps` (ACTL between systems) and `Rows` (the starred rows of the specification).
 
 -- tests, lists and numbers
 pub mod Bools
@@ -40,6 +40,10 @@ pub mod Judged
 pub mod Resting
 pub mod RestedMatched
 pub mod Rested
+-- states that count their waits
+pub mod CountedStates
+pub mod RangedSides
+pub mod Ranges
 -- the method
 pub mod Untils
 pub mod Kept

@@ -75,7 +75,7 @@ duty-by-line ks d = by (line ks)
 -- `kinds-of` goes by `kind`, which is the kind that a state has
 kinds-are : {Ss : List Side} {ss : List ℕ} {ks : List Kind} → OfKinds Ss ss ks → kinds-of Ss ss ≡ ks
 kinds-are nil = refl
-kinds-are (cons {S = S} {s = s} {x = k} h hs) = let p = kind-only k s (state S s) h in let q = kinds-are hs in cc
+kinds-are (cons {S = S} {s = s} {x = k} h hs) = let p = kind-only k (state S s) h in let q = kinds-are hs in cc
 
 -- the joint moves are the choices of a move of each side
 every-enabled : (Ss : List Side) (n : Node) → Fulfils every Ss n ↔ EveryEnabled Ss n
@@ -129,7 +129,7 @@ module _ (k l m : Kind) where
 
 module _ (S R Q : Side) (wS : WellFormedSide S) (wR : WellFormedSide R) (wQ : WellFormedSide Q) (n : Node) (s r q : ℕ) (named : n .names ≡ s ∷ r ∷ q ∷ [])
     (hs : Names (S ∷ R ∷ Q ∷ []) (n .names)) (follows : Follows (S ∷ R ∷ Q ∷ []) n)
-    (k l m : Kind) (hk : IsKind k s (state S s)) (hl : IsKind l r (state R r)) (hm : IsKind m q (state Q q)) where
+    (k l m : Kind) (hk : IsKind k (state S s)) (hl : IsKind l (state R r)) (hm : IsKind m (state Q q)) where
   -- what the node owes
   abbrev pub Owed : Type 0
   Owed = Fulfils (duty (kinds-of (S ∷ R ∷ Q ∷ []) (n .names))) (S ∷ R ∷ Q ∷ []) n

@@ -1,8 +1,8 @@
 -- Members of a list: tests of all members or of some, members by index, and the members of an image.
 use mathlib.Core.Path.{_≡_, refl, sym, ap, subst, subst⁻¹}
-use mathlib.Core.Bool.{Bool, _&&_}
+use mathlib.Core.Bool.{Bool, true, false, _&&_, cond}
 use mathlib.Core.Logic.{⊎-elim}
-use mathlib.Core.List.{List, [], _∷_, map, List·Memᴰ as In, List·Memᴰ·head as here, List·Memᴰ·tail as there, List·Memᴰ·cases-cons as in-cases}
+use mathlib.Core.List.{List, [], _∷_, map, flatten, List·Memᴰ as In, List·Memᴰ·head as here, List·Memᴰ·tail as there, List·Memᴰ·cases-cons as in-cases, List·Memᴰ·append-cases as in-append, List·Memᴰ·eq-of-singleton as in-one, Memᴰ·append-left as in-left, Memᴰ·append-right as in-right}
 use Prim.Native.Nat.{ℕ, zero, suc, _<_}
 use native.Mathlib.Omega.{arith}
 use native.Mathlib.Nat.{not-suc-le-zero}
@@ -97,3 +97,23 @@ all-images f (x ∷ xs) h =
 pub first-in : {A : Type 0} (l : List A) → 0 < length l → (a : A) × In a l
 first-in [] h = absurd (not-suc-le-zero h)
 first-in (x ∷ xs) h = (x, here refl)
+
+-- ---- the lists that stand for the members, one behind the other
+pub in-flat : {A B : Type 0} (f : A → List B) {a : A} {b : B} {l : List A} → In a l → In b (f a) → In b (flatten (map f l))
+unfolding flatten
+in-flat f {b = b} (here {xs = xs} e) j = in-left (flatten (map f xs)) (subst (λ x. In b (f x)) e j)
+in-flat f (there {x = x} i) j = in-right (f x) (in-flat f i j)
+
+pub of-flat : {A B : Type 0} (f : A → List B) (b : B) (l : List A) → In b (flatten (map f l)) → (a : A) × In a l × In b (f a)
+unfolding flatten
+of-flat f b [] i = elim i [ ]
+of-flat f b (x ∷ xs) i =
+    ⊎-elim
+    (λ (j : In b (f x)). (x, here refl, j))
+    (λ (j : In b (flatten (map f xs))). let w = of-flat f b xs j in (w .0, there (w .1), w .2))
+    (in-append (f x) i)
+
+-- the member of a list of one, or of none
+pub of-one : {A : Type 0} (b : Bool) (x y : A) → In x (cond b (y ∷ []) []) → T b × (x ≡ y)
+of-one true x y i = (tt, in-one i)
+of-one false x y i = elim i [ ]

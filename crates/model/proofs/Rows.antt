@@ -1,23 +1,25 @@
 -- Theorem 6: the starred rows of the specification are true. One test computes on the whole table, and a row that passes it says what `Meaning` says.
-use mathlib.Core.Path.{_≡_, refl, subst⁻¹}
+use mathlib.Core.Path.{_≡_, refl, ap₂, subst⁻¹}
 use mathlib.Core.Bool.{Bool, true, false, not, _&&_}
-use mathlib.Core.List.{List, [], _∷_, List·Memᴰ as In}
+use mathlib.Core.List.{List, [], _∷_, flatten, List·Memᴰ as In}
 use mathlib.Core.Option.{Option, none, some}
 use Prim.Native.Nat.{ℕ}
 use lib.Dec.{T, T-not, eqb, eqb→eq}
-use Rattle.model.specs.Events.{Event, tick}
+use Rattle.model.specs.Events.{Event, tick, same-event}
 use Rattle.model.specs.Converters.{Edge, Converter, node, side-events, any-input, any-delayed, duty, Matched}
 use Rattle.model.specs.Designs.{Design}
-use Rattle.model.specs.Sides.{any-sent, kind}
+use Rattle.model.specs.Sides.{Move, State, any-sent, kind}
 use Rattle.model.specs.Joined.{label-words, own-label, labelled}
 use Rattle.model.specs.Positions.{any, is-until, is-always, is-next-of, kept, one-if, count, kept-count, until-count, joint-count, positions}
 use Rattle.model.specs.Judged.{all, tally, same-list, same-events, with-move, with-moves, joint-moves, names?, once?, follows?, fulfils?, obeys?, matched?, until-by, always-for, Verdict, accepted, unmatched, violated, number, judged}
+use Rattle.model.specs.Ranges.{counted-move, counted, counts, replaced, ranged}
 use Rattle.model.specs.Runs.{Runner, done, refused, fits, all-fit, first-fit, taken, ticked}
 use Rattle.model.specs.RowData.{minus}
-use Rattle.model.specs.Rows.{Row, well-formed, no-such-label, kept-are, positions-are, judge-says, keeps-rule, fails-rule, converter-for, none-for, tick-takes, tick-refused, Meaning, rows}
+use Rattle.model.specs.Rows.{Row, well-formed, no-such-label, kept-are, positions-are, judge-says, keeps-rule, fails-rule, converter-for, none-for, tick-takes, tick-refused, ranged-is, Meaning, rows}
 use Rattle.model.proofs.Bools.{and-both}
 use Rattle.model.proofs.Lists.{all-in, any-in}
-use Rattle.model.proofs.JointMoves.{same-events-eq}
+use Rattle.model.proofs.SameEvent.{same-event-eq}
+use Rattle.model.proofs.JointMoves.{same-list-eq, same-events-eq}
 use Rattle.model.proofs.MatchedTest.{matched-sound}
 use Rattle.model.proofs.Judged.{kept-at-start, label-keeps, judged-accepts}
 use Rattle.model.proofs.Formed.{all-below, distinct?, state?, sends?, kind?, side?, lower?, prop?, props?, parts?, well-formed?, props-formed, parts-formed, formed}
@@ -53,6 +55,13 @@ unfoldable stuck : Option Edge → Bool
 stuck none = true
 stuck (some e) = false
 
+-- tables that are the same
+unfoldable same-move : Move → Move → Bool
+same-move m w = same-event (m .event) (w .event) && eqb (m .target) (w .target)
+
+unfoldable same-state : State → State → Bool
+same-state q p = eqb (q .label) (p .label) && same-list same-move (q .moves) (p .moves)
+
 unfoldable row-test : Row → Bool
 row-test (well-formed D) = well-formed? D
 row-test (no-such-label D) = parts? D && not (props? D)
@@ -65,6 +74,7 @@ row-test (converter-for D C) = well-formed? D && eqb (number (judged D C)) (numb
 row-test (none-for D) = well-formed? D && any (refutes D) refutations
 row-test (tick-takes C c xs d es) = leads d es (first-fit xs (node C c .edges))
 row-test (tick-refused C c xs k) = stuck (first-fit xs (node C c .edges)) && eqb 17 k
+row-test (ranged-is S rs R) = same-list same-state (ranged S rs) R
 
 -- every row passes
 rows-pass : T (all row-test rows)
@@ -74,6 +84,7 @@ unfolding row-test all any
     judged matched? obeys? names? once? follows? fulfils? joint-moves with-moves with-move same-list tally duty any-input any-delayed kind until-by always-for labelled own-label label-words
     refutes lost show-at showing every-answer covers withheld never ways-all both-ways either-way
     leads stuck first-fit all-fit fits
+    ranged replaced counts counted counted-move flatten same-state same-move
 rows-pass = tt
 
 -- ---- a row that passes is true
@@ -112,6 +123,19 @@ unfolding stuck taken
 refuses r k none t = let p : 17 ≡ k = eqb→eq 17 k t in cc
 refuses r k (some e) t = absurd t
 
+-- a table is known by its states, and a state by its label word and its moves
+move-eq : (m w : Move) → T (same-move m w) → m ≡ w
+unfolding same-move
+move-eq m w t =
+    let x = and-both (same-event (m .event) (w .event)) (eqb (m .target) (w .target)) t in
+    ap₂ {C = Move} (λ e d. record { event = e; target = d }) (same-event-eq (m .event) (w .event) (x .0)) (eqb→eq (m .target) (w .target) (x .1))
+
+state-eq : (q p : State) → T (same-state q p) → q ≡ p
+unfolding same-state
+state-eq q p t =
+    let x = and-both (eqb (q .label) (p .label)) (same-list same-move (q .moves) (p .moves)) t in
+    ap₂ {C = State} (λ l ms. record { label = l; moves = ms }) (eqb→eq (q .label) (p .label) (x .0)) (same-list-eq same-move move-eq (q .moves) (p .moves) (x .1))
+
 row-means : (r : Row) → T (row-test r) → Meaning r
 unfolding row-test ticked
 row-means (well-formed D) t = formed D t
@@ -143,6 +167,7 @@ row-means (none-for D) t =
     (wf, refuted-none D wf (R .0) (R .2))
 row-means (tick-takes C c xs d es) t = λ before. takes (record { at = c; delivered = before }) d es (first-fit xs (node C c .edges)) t
 row-means (tick-refused C c xs k) t = λ before. refuses (record { at = c; delivered = before }) k (first-fit xs (node C c .edges)) t
+row-means (ranged-is S rs R) t = same-list-eq same-state state-eq (ranged S rs) R t
 
 -- the theorem: every starred row is true
 pub starred-rows : (r : Row) → In r rows → Meaning r

@@ -1,5 +1,4 @@
--- The kind of a state, and what the theorems use of a side. `regular` is the one place that uses refusal 6, that each state of a side has a kind; and of
--- a delayed state no theorem uses that its tick returns to itself.
+-- The kind of a state, and what the theorems of the method use of a side (`Regular`): of refusal 6, that each state has a kind.
 use mathlib.Core.Path.{_≡_, refl, sym, ap, ap₂, subst, subst⁻¹, _∙_}
 use mathlib.Core.Bool.{Bool, true, false, not, cond}
 use mathlib.Core.Logic.{_⊎_, inl, inr, ⊎-elim}
@@ -42,7 +41,7 @@ kind-output-only q h =
     ap₂ (λ (a b : Bool). cond a (cond b output-only delayed) input) s (ap (λ (l : List Move). eqb (length l) 1) (h .1))
 
 -- the moves of a delayed state, in whichever order
-module _ (s : ℕ) (q : State) (h : IsDelayed s q) where
+module _ (q : State) (h : IsDelayed q) where
   pub sends-in : In (h .0) (q .moves)
   sends-in =
       ⊎-elim
@@ -57,20 +56,20 @@ module _ (s : ℕ) (q : State) (h : IsDelayed s q) where
       (λ (e : q .moves ≡ h .1 ∷ h .0 ∷ []). subst⁻¹ (λ (l : List Move). In (h .1) l) e (here refl))
       (h .2)
 
-pub kind-delayed : (s : ℕ) (q : State) → IsDelayed s q → kind q ≡ delayed
+pub kind-delayed : (q : State) → IsDelayed q → kind q ≡ delayed
 unfolding kind
-kind-delayed s q h =
+kind-delayed q h =
     let two : eqb (length (q .moves)) 1 ≡ false = ⊎-elim
     (λ (e : q .moves ≡ h .0 ∷ h .1 ∷ []). ap (λ (l : List Move). eqb (length l) 1) e)
     (λ (e : q .moves ≡ h .1 ∷ h .0 ∷ []). ap (λ (l : List Move). eqb (length l) 1) e)
     (h .2) in
-    ap₂ (λ (a b : Bool). cond a (cond b output-only delayed) input) (T-true (any-sent (q .moves)) (sent-any (q .moves) (h .0) (sends-in s q h) (h .3))) two
+    ap₂ (λ (a b : Bool). cond a (cond b output-only delayed) input) (T-true (any-sent (q .moves)) (sent-any (q .moves) (h .0) (sends-in q h) (h .3))) two
 
 -- a state has no other kind
-pub kind-only : (k : Kind) (s : ℕ) (q : State) → IsKind k s q → kind q ≡ k
-kind-only input s q h = kind-input q h
-kind-only output-only s q h = kind-output-only q h
-kind-only delayed s q h = kind-delayed s q h
+pub kind-only : (k : Kind) (q : State) → IsKind k q → kind q ≡ k
+kind-only input q h = kind-input q h
+kind-only output-only q h = kind-output-only q h
+kind-only delayed q h = kind-delayed q h
 
 -- ---- what the theorems use of a state with n states beside it
 pub record RegularState (n : ℕ) (q : State) : Type 0 where
@@ -102,7 +101,7 @@ sent-no-tick (pos n) h e = h
 sent-no-tick (negsuc n) h e = let z : _≡_ {A = ℕ} 0 1 = cc in omega arith
 
 -- the members of a list of one, and of two
-lone : (x : Move) (l : List Move) → l ≡ x ∷ [] → (m : Move) → In m l → m ≡ x
+pub lone : (x : Move) (l : List Move) → l ≡ x ∷ [] → (m : Move) → In m l → m ≡ x
 lone x l e m i = ⊎-elim (λ (p : m ≡ x). p) (λ (j : In m []). elim j [ ]) (in-cases (subst (λ (k : List Move). In m k) e i))
 
 pub pair : (x y : Move) (l : List Move) → (l ≡ x ∷ y ∷ []) ⊎ (l ≡ y ∷ x ∷ []) → (m : Move) → In m l → (m ≡ x) ⊎ (m ≡ y)
@@ -110,10 +109,10 @@ pair x y l (inl e) m i = ⊎-elim (λ (p : m ≡ x). inl p) (λ (j : In m (y ∷
 pair x y l (inr e) m i = ⊎-elim (λ (p : m ≡ y). inr p) (λ (j : In m (x ∷ [])). inl (lone x (x ∷ []) refl m j)) (in-cases (subst (λ (k : List Move). In m k) e i))
 
 -- the move of a state that sends, by what it shows
-pub show-known : (k : Kind) (s : ℕ) (q : State) → IsKind k s q → (kind q ≡ input → ⊥) → (m w : Move) → In m (q .moves) → In w (q .moves) → shown (m .event) ≡ shown (w .event) → m ≡ w
-show-known input s q h n m w i j e = absurd (n (kind-input q h))
-show-known output-only s q h n m w i j e = lone (h .0) (q .moves) (h .1) m i ∙ sym (lone (h .0) (q .moves) (h .1) w j)
-show-known delayed s q h n m w i j e = by (pair (h .0) (h .1) (q .moves) (h .2) m i) (pair (h .0) (h .1) (q .moves) (h .2) w j)
+pub show-known : (k : Kind) (q : State) → IsKind k q → (kind q ≡ input → ⊥) → (m w : Move) → In m (q .moves) → In w (q .moves) → shown (m .event) ≡ shown (w .event) → m ≡ w
+show-known input q h n m w i j e = absurd (n (kind-input q h))
+show-known output-only q h n m w i j e = lone (h .0) (q .moves) (h .1) m i ∙ sym (lone (h .0) (q .moves) (h .1) w j)
+show-known delayed q h n m w i j e = by (pair (h .0) (h .1) (q .moves) (h .2) m i) (pair (h .0) (h .1) (q .moves) (h .2) w j)
   where
     -- the sent move and the tick are not shown alike
     apart : (a b : Move) → a ≡ h .0 → b ≡ h .1 → shown (a .event) ≡ shown (b .event) → ⊥
@@ -127,10 +126,10 @@ show-known delayed s q h n m w i j e = by (pair (h .0) (h .1) (q .moves) (h .2) 
     by (inl p) (inr r) = absurd (apart m w p r e)
     by (inr p) (inl r) = absurd (apart w m r p (sym e))
 
-pub one-shown : (k : Kind) (s : ℕ) (q : State) → IsKind k s q → (kind q ≡ delayed → ⊥) → (m w : Move) → In m (q .moves) → In w (q .moves) → shown (m .event) ≡ shown (w .event)
-one-shown input s q h n m w i j = shown-unsent (m .event) (h m i) ∙ sym (shown-unsent (w .event) (h w j))
-one-shown output-only s q h n m w i j = ap (λ (x : Move). shown (x .event)) (lone (h .0) (q .moves) (h .1) m i ∙ sym (lone (h .0) (q .moves) (h .1) w j))
-one-shown delayed s q h n m w i j = absurd (n (kind-delayed s q h))
+pub one-shown : (k : Kind) (q : State) → IsKind k q → (kind q ≡ delayed → ⊥) → (m w : Move) → In m (q .moves) → In w (q .moves) → shown (m .event) ≡ shown (w .event)
+one-shown input q h n m w i j = shown-unsent (m .event) (h m i) ∙ sym (shown-unsent (w .event) (h w j))
+one-shown output-only q h n m w i j = ap (λ (x : Move). shown (x .event)) (lone (h .0) (q .moves) (h .1) m i ∙ sym (lone (h .0) (q .moves) (h .1) w j))
+one-shown delayed q h n m w i j = absurd (n (kind-delayed q h))
 
 pub regular : (S : Side) → WellFormedSide S → Regular S
 regular S wf =
@@ -148,7 +147,7 @@ regular S wf =
                 let b = index-in no-move j in
                 let same : a .0 ≡ b .0 = f .once (a .0) (b .0) (a .1) (b .1) (ap (λ (x : Move). x .event) (a .2) ∙ e ∙ sym (ap (λ (x : Move). x .event) (b .2))) in
                 sym (a .2) ∙ ap (λ (x : ℕ). getD (q .moves) x no-move) same ∙ b .2;
-            by-show = show-known (k .0) s q (k .1);
-            one-show = one-shown (k .0) s q (k .1);
+            by-show = show-known (k .0) q (k .1);
+            one-show = one-shown (k .0) q (k .1);
           };
     }

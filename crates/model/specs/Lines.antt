@@ -84,4 +84,4 @@ ThreeLines ks Ss n = Lines ks (EveryEnabled Ss n) (OneForEach ks n) (OneOrMore n
 
 -- the states that are named have the kinds ks
 abbrev pub OfKinds : List Side → List ℕ → List Kind → Type 0
-OfKinds Ss ss ks = Each (λ S s k. IsKind k s (state S s)) Ss ss ks
+OfKinds Ss ss ks = Each (λ S s k. IsKind k (state S s)) Ss ss ks

@@ -9,6 +9,7 @@ use Rattle.model.specs.Converters.{Edge, Node, Converter}
 use Rattle.model.specs.Formulas.{Form, truth, prop, nprop, conj, disj, ax, au, ag}
 use Rattle.model.specs.Designs.{Design}
 use Rattle.model.specs.Resting.{rested-node, rested-design}
+use Rattle.model.specs.Ranges.{Range, up-to, none, ranged}
 
 -- ---- as the specification writes them
 abbrev pub plus : ℕ → Event
@@ -41,11 +42,14 @@ abbrev design-of-three : Side → Side → Side → List Form → List ℕ → D
 design-of-three S R Q fs rs = record { sides = S ∷ R ∷ Q ∷ []; forms = fs; rules = rs }
 
 -- ---- the handshake pair H: s0 and s1 beside t0 and t1 (the paper, section 3)
+abbrev pub handshake-kernel : Side
+handshake-kernel = labelling 1 (on tick 0 ∷ on (minus 1) 1 ∷ []) ∷ labelling 2 (on tick 1 ∷ on (minus 2) 0 ∷ []) ∷ []
+
+abbrev handshake-host : Side
+handshake-host = labelling 4 (on tick 0 ∷ on (plus 1) 1 ∷ []) ∷ labelling 8 (on (plus 2) 0 ∷ []) ∷ []
+
 abbrev pub handshake : List Side
-handshake =
-    (labelling 1 (on tick 0 ∷ on (minus 1) 1 ∷ []) ∷ labelling 2 (on tick 1 ∷ on (minus 2) 0 ∷ []) ∷ [])
-    ∷ (labelling 4 (on tick 0 ∷ on (plus 1) 1 ∷ []) ∷ labelling 8 (on (plus 2) 0 ∷ []) ∷ [])
-    ∷ []
+handshake = handshake-kernel ∷ handshake-host ∷ []
 
 -- its propositions by the paper's names: Idle₁ of s0, ROut of s1, Idle₂ of t0, RIn of t1
 abbrev idle₁ : ℕ
@@ -106,9 +110,13 @@ H-printed = design handshake (four (nprop idle₂)) four-rules
 abbrev pub H-mended : Design
 H-mended = design handshake (four (prop idle₂)) four-rules
 
--- H with A(true U 1)
+-- A(true U 1)
+abbrev r-out-comes : List Form
+r-out-comes = truth ∷ prop r-out ∷ au 0 1 ∷ []
+
+-- H with it
 abbrev pub H-until : Design
-H-until = design handshake (truth ∷ prop r-out ∷ au 0 1 ∷ []) (2 ∷ [])
+H-until = design handshake r-out-comes (2 ∷ [])
 
 -- ---- one ticking state
 abbrev ticking : Side
@@ -266,3 +274,67 @@ all-eight = alone (triple tick tick tick 0 ∷ seven)
 
 abbrev pub seven-of-eight : Converter
 seven-of-eight = alone seven
+
+-- ---- waits known by range
+-- state s at l to g waits, and at l or more
+abbrev pub between : ℕ → ℕ → ℕ → Range
+between s l g = record { state = s; least = l; greatest = up-to g }
+
+abbrev pub at-least : ℕ → ℕ → Range
+at-least s l = record { state = s; least = l; greatest = none }
+
+-- H with s0 at 0 to 2, and A(true U 1)
+abbrev pub H-in-time : Design
+H-in-time = design (ranged handshake-kernel (between 0 0 2 ∷ []) ∷ handshake-host ∷ []) r-out-comes (2 ∷ [])
+
+-- s0, s1 and counts 1 and 2 of s0, beside t0, which is never told
+abbrev pub sent-in-time : Converter
+sent-in-time =
+    at 0 0 (pair tick tick 2 ∷ pair (plus 1) tick 1 ∷ [])
+    ∷ at 1 0 (pair tick tick 1 ∷ pair (plus 2) tick 0 ∷ [])
+    ∷ at 2 0 (pair tick tick 3 ∷ pair (plus 1) tick 1 ∷ [])
+    ∷ at 3 0 (pair (plus 1) tick 1 ∷ [])
+    ∷ []
+
+-- s1 as it is; s0 where it ticks to the state t, where it sends, and where it does either
+abbrev s1 : State
+s1 = labelling 2 (on tick 1 ∷ on (minus 2) 0 ∷ [])
+
+abbrev s0-ticks : ℕ → State
+s0-ticks t = labelling 1 (on tick t ∷ [])
+
+abbrev s0-sends : State
+s0-sends = labelling 1 (on (minus 1) 1 ∷ [])
+
+abbrev s0-either : ℕ → State
+s0-either t = labelling 1 (on tick t ∷ on (minus 1) 1 ∷ [])
+
+-- the kernel of H with s0 at 0 to 0
+abbrev pub sends-at-once : Side
+sends-at-once = s0-sends ∷ s1 ∷ []
+
+-- with s0 at 3 to 9. Count 0 is state 0, and counts 1 to 9 are states 2 to 10: counts 0 to 2 tick, 3 to 8 do either, 9 sends.
+abbrev pub third-to-ninth : Side
+third-to-ninth =
+    s0-ticks 2 ∷ s1 ∷ s0-ticks 3 ∷ s0-ticks 4
+    ∷ s0-either 5 ∷ s0-either 6 ∷ s0-either 7 ∷ s0-either 8 ∷ s0-either 9 ∷ s0-either 10
+    ∷ s0-sends
+    ∷ []
+
+-- with s1 at 1 to 2 and then s0 at 0 to 1: counts 1 and 2 of s1 are states 2 and 3, and count 1 of s0 is state 4
+abbrev pub s1-then-s0 : Side
+s1-then-s0 =
+    s0-either 4
+    ∷ labelling 2 (on tick 2 ∷ []) ∷ labelling 2 (on tick 3 ∷ on (minus 2) 0 ∷ []) ∷ labelling 2 (on (minus 2) 0 ∷ [])
+    ∷ s0-sends
+    ∷ []
+
+-- one state that sends 3 back to itself, or ticks
+abbrev pub sending-back : Side
+sending-back = staying (minus 3 ∷ tick ∷ [])
+
+-- the same at 15 or more: counts 0 to 14 tick, and count 15 sends back to count 0 or ticks to itself
+abbrev pub fifteen-or-more : Side
+fifteen-or-more =
+    map (λ t. labelling 0 (on tick t ∷ [])) (1 ∷ 2 ∷ 3 ∷ 4 ∷ 5 ∷ 6 ∷ 7 ∷ 8 ∷ 9 ∷ 10 ∷ 11 ∷ 12 ∷ 13 ∷ 14 ∷ 15 ∷ [])
+    ++ (labelling 0 (on (minus 3) 0 ∷ on tick 15 ∷ []) ∷ [])

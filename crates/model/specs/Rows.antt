@@ -10,8 +10,9 @@ use Rattle.model.specs.Formulas.{Lower, Propositions}
 use Rattle.model.specs.Designs.{Design, WellFormed, Keeps, Works, NoneWorks}
 use Rattle.model.specs.Positions.{kept-count, positions}
 use Rattle.model.specs.Judged.{Verdict, accepted, unmatched, violated, judged}
+use Rattle.model.specs.Ranges.{Range, ranged}
 use Rattle.model.specs.Runs.{done, refused, ticked}
-use Rattle.model.specs.RowData.{plus, minus, H, H-printed, H-mended, H-until, F, F-deaf, F-third, turns, turns-converter, fork-either, fork-two, fork-both, fork-first, fork-open, lock-then-menu, menu-now, lock-next, in-step, naming, viewer-alone, viewer-prompt, viewer-waiting, picture-at-once, picture-in-time, four-choices, one-for-each, one-left-out, one-too-many, three-senders, all-eight, seven-of-eight}
+use Rattle.model.specs.RowData.{plus, minus, H, H-printed, H-mended, H-until, F, F-deaf, F-third, turns, turns-converter, fork-either, fork-two, fork-both, fork-first, fork-open, lock-then-menu, menu-now, lock-next, in-step, naming, viewer-alone, viewer-prompt, viewer-waiting, picture-at-once, picture-in-time, four-choices, one-for-each, one-left-out, one-too-many, three-senders, all-eight, seven-of-eight, between, at-least, H-in-time, sent-in-time, handshake-kernel, sends-at-once, third-to-ninth, s1-then-s0, sending-back, fifteen-or-more}
 
 pub data Row : Type 0 where
   -- a design that none of 5 to 7 refuses
@@ -34,6 +35,8 @@ pub data Row : Type 0 where
   tick-takes : Converter → ℕ → List Event → ℕ → List Event → Row
   -- or the number of its refusal
   tick-refused : Converter → ℕ → List Event → ℕ → Row
+  -- a side, ranges for its states, and the table in which these count
+  ranged-is : Side → List Range → Side → Row
 
 -- what a row says of the definitions; of a tick, whatever was delivered before
 abbrev pub Meaning : Row → Type 0
@@ -56,6 +59,7 @@ Meaning (tick-refused C c xs k) =
     (before : List Event)
     → ticked C (record { at = c; delivered = before }) xs
     ≡ record { answer = refused k; runner = record { at = c; delivered = before } }
+Meaning (ranged-is S rs R) = ranged S rs ≡ R
 
 -- the starred rows, in the specification's order
 abbrev pub rows : List Row
@@ -94,4 +98,13 @@ rows =
     ∷ judge-says four-choices one-for-each accepted ∷ judge-says four-choices one-left-out unmatched ∷ judge-says four-choices one-too-many unmatched
     -- three delayed sides: all eight joint moves
     ∷ judge-says three-senders all-eight accepted ∷ judge-says three-senders seven-of-eight unmatched
+    -- H with s0 at 0 to 2, A(true U 1): 16 positions, a converter
+    ∷ positions-are H-in-time 16 ∷ converter-for H-in-time sent-in-time
+    -- the kernel of H with s0 at 0 to 0: it only sends; at 0 or more: as it was
+    ∷ ranged-is handshake-kernel (between 0 0 0 ∷ []) sends-at-once ∷ ranged-is handshake-kernel (at-least 0 0 ∷ []) handshake-kernel
+    -- s0 at 3 to 9; s1 at 1 to 2 and then s0 at 0 to 1
+    ∷ ranged-is handshake-kernel (between 0 3 9 ∷ []) third-to-ninth
+    ∷ ranged-is handshake-kernel (between 1 1 2 ∷ between 0 0 1 ∷ []) s1-then-s0
+    -- one state that sends back to itself, at 15 or more
+    ∷ ranged-is sending-back (at-least 0 15 ∷ []) fifteen-or-more
     ∷ []

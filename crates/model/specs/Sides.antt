@@ -32,7 +32,7 @@ no-state = record { label = 0; moves = [] }
 abbrev pub state : Side → ℕ → State
 state S s = getD S s no-state
 
--- ---- the three kinds (the paper, section 4.1), each as the specification says it, of state number s with the table line q
+-- ---- the three kinds (the paper, section 4.1), each as the specification says it, of a state with the table line q
 pub data Kind : Type 0 where
   input output-only delayed : Kind
 
@@ -44,16 +44,14 @@ IsInput q = (m : Move) → In m (q .moves) → T (not (sent (m .event)))
 abbrev pub IsOutputOnly : State → Type 0
 IsOutputOnly q = (m : Move) × (q .moves ≡ m ∷ []) × T (sent (m .event))
 
--- exactly two, in either order: one sent (m) and a tick back to itself (w)
-abbrev pub IsDelayed : ℕ → State → Type 0
-IsDelayed s q =
-    (m : Move) × (w : Move) × ((q .moves ≡ m ∷ w ∷ []) ⊎ (q .moves ≡ w ∷ m ∷ []))
-    × T (sent (m .event)) × (w .event ≡ tick) × (w .target ≡ s)
+-- exactly two, in either order: one sent (m) and a tick (w), to whichever states they lead
+abbrev pub IsDelayed : State → Type 0
+IsDelayed q = (m : Move) × (w : Move) × ((q .moves ≡ m ∷ w ∷ []) ⊎ (q .moves ≡ w ∷ m ∷ [])) × T (sent (m .event)) × (w .event ≡ tick)
 
-abbrev pub IsKind : Kind → ℕ → State → Type 0
-IsKind input s q = IsInput q
-IsKind output-only s q = IsOutputOnly q
-IsKind delayed s q = IsDelayed s q
+abbrev pub IsKind : Kind → State → Type 0
+IsKind input q = IsInput q
+IsKind output-only q = IsOutputOnly q
+IsKind delayed q = IsDelayed q
 
 unfoldable pub any-sent : List Move → Bool
 any-sent [] = false
@@ -74,12 +72,12 @@ pub record WellFormedState (n : ℕ) (q : State) : Type 0 where
   pub inside : (m : Move) → In m (q .moves) → m .target < n
 
 -- refusal 6: a state of one of the three kinds
-abbrev pub HasKind : ℕ → State → Type 0
-HasKind s q = (k : Kind) × IsKind k s q
+abbrev pub HasKind : State → Type 0
+HasKind q = (k : Kind) × IsKind k q
 
 -- refusals 5 and 6 of each state, and 1 to 16 states (refusal 4)
 pub record WellFormedSide (S : Side) : Type 0 where
   pub some-state : 1 ≤ length S
   pub at-most-sixteen : length S ≤ 16
   pub each : (s : ℕ) → s < length S → WellFormedState (length S) (state S s)
-  pub kinds : (s : ℕ) → s < length S → HasKind s (state S s)
+  pub kinds : (s : ℕ) → s < length S → HasKind (state S s)

@@ -18,7 +18,7 @@ use Rattle.refusals.proofs.DesignBlocks.{blocks-long, side-is, formulas
 use Rattle.layout.proofs.DesignBytes.{resting-side, side-length, forms-length, rules-length}
 
 -- the limits of a side
-side-limits : (i : ℕ) → i < side-count → (side-block i .least ≡ 1) × (side-block i .most ≡ most-states)
+pub side-limits : (i : ℕ) → i < side-count → (side-block i .least ≡ 1) × (side-block i .most ≡ most-states)
 side-limits zero h = (refl, refl)
 side-limits (suc zero) h = (refl, refl)
 side-limits (suc (suc zero)) h = (refl, refl)

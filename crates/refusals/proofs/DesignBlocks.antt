@@ -1,6 +1,6 @@
 -- The blocks of a design by number, where n sides have one: those of the sides first, then the formulas and the rules. Test 1 says that n is two or three.
 use mathlib.Core.Path.{_≡_, refl, sym, ap, _∙_}
-use mathlib.Core.Bool.{Bool, _&&_}
+use mathlib.Core.Bool.{Bool, true, _&&_}
 use mathlib.Core.Logic.{_↔_, ⊎-elim}
 use mathlib.Core.List.{List, [], _∷_}
 use Prim.Native.Nat.{ℕ, zero, suc, _+_, _*_, _≤_, _<_}
@@ -16,7 +16,7 @@ use Rattle.layout.specs.Blocks.{Block, kernel, formulas, rules, side-blocks, de
 use Rattle.layout.specs.Designs.{held, Whole, side-block}
 use Rattle.refusals.specs.Counted.{block}
 use Rattle.refusals.specs.Refusals.{design-bytes, length-right}
-use Rattle.layout.proofs.Tables.{and-unit}
+use Rattle.layout.proofs.Tables.{and-unit, all-true, all-at}
 use Rattle.layout.proofs.DesignBytes.{side-at}
 use Rattle.refusals.proofs.AllTests.{all-append}
 
@@ -40,6 +40,12 @@ length-whole bs = (
 )
 
 -- ---- the blocks
+pub side-first : (i : ℕ) → i < side-count → side-block i .first ≡ 0
+side-first zero h = refl
+side-first (suc zero) h = refl
+side-first (suc (suc zero)) h = refl
+side-first (suc (suc (suc i))) h = absurd (omega arith)
+
 module _ (n : ℕ) (few : n ≤ side-count) where
   sides-long : length (take n side-blocks) ≡ n
   sides-long = length-take-le n side-blocks few
@@ -76,12 +82,24 @@ module _ (n : ℕ) (few : n ≤ side-count) where
 
   pub block-first : (i : ℕ) → i < n + other-blocks → block n i .first ≡ 0
   block-first = each-block (λ i b. b .first ≡ 0) (λ i h. side-first i (omega arith)) refl refl
-    where
-      side-first : (i : ℕ) → i < side-count → side-block i .first ≡ 0
-      side-first zero h = refl
-      side-first (suc zero) h = refl
-      side-first (suc (suc zero)) h = refl
-      side-first (suc (suc (suc i))) h = absurd (omega arith)
+
+  -- ---- a test of every block: it is one of each side's, of the formulas' and of the rules'
+  module _ (p : Block → Bool) where
+    pub blocks-pass : ((i : ℕ) → i < n → p (side-block i) ≡ true) → p (formulas n) ≡ true → p (rules n) ≡ true → all p (design-blocks n) ≡ true
+    blocks-pass s f r = all-true p kernel (design-blocks n) (λ i h. each-block (λ i b. p b ≡ true) s f r i (omega (arith, blocks-long)))
+
+    module _ (e : all p (design-blocks n) ≡ true) where
+      block-passes : (i : ℕ) → i < n + other-blocks → p (block n i) ≡ true
+      block-passes i h = all-at p kernel (design-blocks n) e i (omega (arith, blocks-long))
+
+      pub side-passes : (i : ℕ) → i < n → p (side-block i) ≡ true
+      side-passes i h = ap p (sym (side-is i h)) ∙ block-passes i (omega arith)
+
+      pub formulas-pass : p (formulas n) ≡ true
+      formulas-pass = ap p (sym (formulas-is n refl)) ∙ block-passes n (omega arith)
+
+      pub rules-pass : p (rules n) ≡ true
+      rules-pass = ap p (sym (rules-is (n + 1) refl)) ∙ block-passes (n + 1) (omega arith)
 
 -- a test of the blocks: of those of the sides first
 pub sides-first : (n : ℕ) (p : Block → Bool) → all p (design-blocks n) ≡ (all p (take n side-blocks) && (p (formulas n) && p (rules n)))

@@ -7,16 +7,14 @@ use native.Mathlib.Omega.{arith}
 use lib.Dec.{T, ltb, leb→le, le→leb, ltb→lt, lt→ltb}
 use lib.ListN.{length, getD}
 use Rattle.model.specs.Formulas.{Form, truth, falsity, prop, nprop, conj, disj, ax, au, ag, LowerForm, Lower, PropForm, Propositions}
-use Rattle.model.proofs.Bools.{and-both, both-and}
+use Rattle.model.proofs.Bools.{both-and}
+use Rattle.model.proofs.Formed.{two-lower}
 use Rattle.model.proofs.Lists.{all-in, in-all}
 use Rattle.layout.specs.Sizes.{side-count, last-proposition}
 use Rattle.layout.specs.Tests.{form-right, forms-right, rules-right}
 use Rattle.layout.proofs.Tables.{each-every, every-each}
 
 -- two operands
-two-lower : (a b k : ℕ) → T (ltb a k && ltb b k) → (a < k) × (b < k)
-two-lower a b k t = let w = and-both (ltb a k) (ltb b k) t in (ltb→lt a k (w .0), ltb→lt b k (w .1))
-
 lower-two : (a b k : ℕ) → (a < k) × (b < k) → T (ltb a k && ltb b k)
 lower-two a b k h = both-and (ltb a k) (ltb b k) (lt→ltb a k (h .0)) (lt→ltb b k (h .1))
 

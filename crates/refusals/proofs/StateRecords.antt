@@ -15,7 +15,7 @@ use Rattle.layout.specs.Tables.{every, distinct}
 use Rattle.layout.specs.States.{no-place, move-of, state-of}
 use Rattle.layout.specs.Tests.{in-range, move, state-right, sends-or-waits, is-input, is-output-only, is-delayed, kind-right}
 use Rattle.layout.proofs.Tables.{true-T, false-T, each-every, every-each}
-use Rattle.joint.proofs.StateMoves.{moves-length, move-at}
+use Rattle.layout.proofs.RecordMoves.{moves-length, move-at}
 
 every-cong : (p r : ℕ → Bool) (n : ℕ) → ((k : ℕ) → k < n → p k ≡ r k) → every n p ≡ every n r
 unfolding every
@@ -115,33 +115,36 @@ by-sent true true t y = refl
 by-sent true false true y = refl
 by-sent true false false y = refl
 
-module _ (k : ℕ) (q : StateRecord) where
-  -- the two orders in which a sent event and a tick may stand
-  abbrev pub sends-first : Bool
-  sends-first = sends-or-waits k (move-of (getD (q .places) 0 no-place)) (move-of (getD (q .places) 1 no-place))
+-- a test of two of a record's places, in the one order and in the other
+module _ (p : Move → Move → Bool) (q : StateRecord) where
+  abbrev pub in-order : Bool
+  in-order = p (move-of (getD (q .places) 0 no-place)) (move-of (getD (q .places) 1 no-place))
 
-  abbrev pub waits-first : Bool
-  waits-first = sends-or-waits k (move-of (getD (q .places) 1 no-place)) (move-of (getD (q .places) 0 no-place))
+  abbrev pub turned-round : Bool
+  turned-round = p (move-of (getD (q .places) 1 no-place)) (move-of (getD (q .places) 0 no-place))
 
+  -- is one of its moves, where it has two
+  pub by-places : q .count ≡ 2 → (p (move (state-of q) 0) (move (state-of q) 1) || p (move (state-of q) 1) (move (state-of q) 0)) ≡ (in-order || turned-round)
+  by-places t = rw (move-at q 0 (omega arith), move-at q 1 (omega arith))
+
+module _ (q : StateRecord) where
   abbrev by-moves : Bool
-  by-moves = sends-or-waits k (move (state-of q) 0) (move (state-of q) 1) || sends-or-waits k (move (state-of q) 1) (move (state-of q) 0)
+  by-moves = sends-or-waits (move (state-of q) 0) (move (state-of q) 1) || sends-or-waits (move (state-of q) 1) (move (state-of q) 0)
 
-  kind-test : kind-right k (state-of q) ≡ cond (any-sent (state-of q .moves)) (cond (eqb (q .count) 1) true (cond (eqb (q .count) 2) by-moves false)) true
+  kind-test : kind-right (state-of q) ≡ cond (any-sent (state-of q .moves)) (cond (eqb (q .count) 1) true (cond (eqb (q .count) 2) by-moves false)) true
   unfolding kind-right is-input is-output-only is-delayed
   kind-test = rw (moves-length q) (by-sent (any-sent (state-of q .moves)) (eqb (q .count) 1) (eqb (q .count) 2) by-moves)
 
-  pub unsent-passes : any-sent (state-of q .moves) ≡ false → kind-right k (state-of q) ≡ true
+  pub unsent-passes : any-sent (state-of q .moves) ≡ false → kind-right (state-of q) ≡ true
   unsent-passes e = kind-test ∙ rw e
 
-  pub single-passes : any-sent (state-of q .moves) ≡ true → q .count ≡ 1 → kind-right k (state-of q) ≡ true
+  pub single-passes : any-sent (state-of q .moves) ≡ true → q .count ≡ 1 → kind-right (state-of q) ≡ true
   single-passes e o = kind-test ∙ rw (e, eq-eqb (q .count) 1 o)
 
-  pub other-fails : any-sent (state-of q .moves) ≡ true → (q .count ≡ 1 → ⊥) → (q .count ≡ 2 → ⊥) → kind-right k (state-of q) ≡ false
+  pub other-fails : any-sent (state-of q .moves) ≡ true → (q .count ≡ 1 → ⊥) → (q .count ≡ 2 → ⊥) → kind-right (state-of q) ≡ false
   other-fails e o t = kind-test ∙ rw (e, ne-eqb (q .count) 1 o, ne-eqb (q .count) 2 t)
 
-  pub two-decides : any-sent (state-of q .moves) ≡ true → q .count ≡ 2 → kind-right k (state-of q) ≡ (sends-first || waits-first)
+  pub two-decides : any-sent (state-of q .moves) ≡ true → q .count ≡ 2 → kind-right (state-of q) ≡ (in-order sends-or-waits q || turned-round sends-or-waits q)
   two-decides e t =
       let o : q .count ≡ 1 → ⊥ = λ o. absurd (omega arith) in
-      let a : 0 < q .count = omega arith in
-      let b : 1 < q .count = omega arith in
-      kind-test ∙ rw (e, ne-eqb (q .count) 1 o, eq-eqb (q .count) 2 t, move-at q 0 a, move-at q 1 b)
+      kind-test ∙ rw (e, ne-eqb (q .count) 1 o, eq-eqb (q .count) 2 t) (by-places sends-or-waits q t)

@@ -1,17 +1,17 @@
 -- Tests 5 and 6 of a state say what the model's predicates say.
 use mathlib.Core.Path.{_≡_, sym, subst, subst⁻¹}
 use mathlib.Core.Bool.{Bool, false, _&&_, _||_}
-use mathlib.Core.Logic.{_↔_, inl, inr, ⊎-elim}
+use mathlib.Core.Logic.{_↔_, _⊎_, inl, inr, ⊎-elim}
 use mathlib.Core.List.{List, [], _∷_, List·Memᴰ as In}
 use Prim.Native.Nat.{ℕ, _<_}
-use lib.Dec.{T, T-not, not-T, eqb, leb, ltb, leb→le, le→leb, ltb→lt, lt→ltb, eqb→eq, eqb-refl}
+use lib.Dec.{T, T-not, not-T, eqb, leb, ltb, leb→le, le→leb, ltb→lt, lt→ltb, eqb→eq}
 use lib.IntN.{natAbs}
 use lib.ListN.{length, getD}
 use Rattle.model.specs.Events.{Event, tick, sent, same-event}
 use Rattle.model.specs.Sides.{Move, State, Side, state, no-move, any-sent, Kind, input, output-only, delayed, IsInput, IsOutputOnly, IsDelayed, IsKind, WellFormedState, HasKind}
 use Rattle.model.proofs.Bools.{and-both, both-and, or-either, or-left, or-right}
 use Rattle.model.proofs.Lists.{getD-in, index-in}
-use Rattle.model.proofs.SameEvent.{same-event-eq, same-event-refl}
+use Rattle.model.proofs.SameEvent.{same-event-eq, same-event-refl, sent-and-tick}
 use Rattle.model.proofs.StateKinds.{sent-any, any-unsent}
 use Rattle.layout.specs.Sizes.{place-count}
 use Rattle.layout.specs.Tables.{table, table-from, every, distinct}
@@ -79,7 +79,36 @@ module _ (n : ℕ) (q : State) where
   state-formed = (state-forms, forms-state)
 
 -- ---- 6
-module _ (s : ℕ) (q : State) where
+-- two moves, the one with the other as a test p says, in whichever order they stand
+module _ (p : Move → Move → Bool) (q : State) where
+  abbrev pub Two : Type 0
+  Two = (m : Move) × (w : Move) × ((q .moves ≡ m ∷ w ∷ []) ⊎ (q .moves ≡ w ∷ m ∷ [])) × T (p m w)
+
+  abbrev pub in-some-order : List Move → Bool
+  in-some-order l = eqb (length l) 2 && (p (getD l 0 no-move) (getD l 1 no-move) || p (getD l 1 no-move) (getD l 0 no-move))
+
+  pub two-in-order : T (in-some-order (q .moves)) → Two
+  unfolding table table-from
+  two-in-order t =
+      let m = move q 0 in
+      let w = move q 1 in
+      let u = and-both (eqb (length (q .moves)) 2) (p m w || p w m) t in
+      let both : q .moves ≡ m ∷ w ∷ [] = as-table no-move 2 (q .moves) (eqb→eq (length (q .moves)) 2 (u .0)) in
+      ⊎-elim (λ (x : T (p m w)). (m, w, inl both, x)) (λ (x : T (p w m)). (w, m, inr both, x)) (or-either (p m w) (p w m) (u .1))
+
+  pub order-of-two : Two → T (in-some-order (q .moves))
+  order-of-two h =
+      let m = h .0 in
+      let w = h .1 in
+      ⊎-elim
+      (λ (e : q .moves ≡ m ∷ w ∷ []). subst⁻¹ (λ (l : List Move). T (in-some-order l)) e (or-left (p m w) (p w m) (h .3)))
+      (λ (e : q .moves ≡ w ∷ m ∷ []). subst⁻¹ (λ (l : List Move). T (in-some-order l)) e (or-right (p w m) (p m w) (h .3)))
+      (h .2)
+
+pub forms-sends : (m w : Move) → T (sent (m .event)) → w .event ≡ tick → T (sends-or-waits m w)
+forms-sends m w t e = both-and (sent (m .event)) (same-event (w .event) tick) t (same-of (w .event) tick e)
+
+module _ (q : State) where
   input-forms : T (is-input q) → IsInput q
   unfolding is-input
   input-forms t m i = not-T (sent (m .event)) (λ y. T-not (any-sent (q .moves)) t (sent-any (q .moves) m i y))
@@ -88,14 +117,10 @@ module _ (s : ℕ) (q : State) where
   unfolding is-input
   forms-input h = not-T (any-sent (q .moves)) (any-unsent (q .moves) h)
 
-  -- a list of one, or of two, is its moves by number
+  -- a list of one is its move by number
   one-move : T (eqb (length (q .moves)) 1) → q .moves ≡ move q 0 ∷ []
   unfolding table table-from
   one-move t = as-table no-move 1 (q .moves) (eqb→eq (length (q .moves)) 1 t)
-
-  two-moves : T (eqb (length (q .moves)) 2) → q .moves ≡ move q 0 ∷ move q 1 ∷ []
-  unfolding table table-from
-  two-moves t = as-table no-move 2 (q .moves) (eqb→eq (length (q .moves)) 2 t)
 
   output-forms : T (is-output-only q) → IsOutputOnly q
   unfolding is-output-only any-sent
@@ -108,60 +133,33 @@ module _ (s : ℕ) (q : State) where
   unfolding is-output-only any-sent
   forms-output h = subst⁻¹ (λ (l : List Move). T (eqb (length l) 1 && any-sent l)) (h .1) (or-left (sent (h .0 .event)) false (h .2))
 
-  sends-forms : (m w : Move) → T (sends-or-waits s m w) → T (sent (m .event)) × (w .event ≡ tick) × (w .target ≡ s)
-  sends-forms m w t =
-      let a = and-both (sent (m .event) && same-event (w .event) tick) (eqb (w .target) s) t in
-      let b = and-both (sent (m .event)) (same-event (w .event) tick) (a .0) in
-      (b .0, same-event-eq (w .event) tick (b .1), eqb→eq (w .target) s (a .1))
-
-  forms-sends : (m w : Move) → T (sent (m .event)) → w .event ≡ tick → w .target ≡ s → T (sends-or-waits s m w)
-  forms-sends m w t e f =
-      both-and (sent (m .event) && same-event (w .event) tick) (eqb (w .target) s)
-      (both-and (sent (m .event)) (same-event (w .event) tick) t (same-of (w .event) tick e))
-      (subst (λ (x : ℕ). T (eqb (w .target) x)) f (eqb-refl (w .target)))
-
-  delayed-forms : T (is-delayed s q) → IsDelayed s q
+  delayed-forms : T (is-delayed q) → IsDelayed q
   unfolding is-delayed
   delayed-forms t =
-      let m = move q 0 in
-      let w = move q 1 in
-      let u = and-both (eqb (length (q .moves)) 2) (sends-or-waits s m w || sends-or-waits s w m) t in
-      ⊎-elim
-      (λ (x : T (sends-or-waits s m w)). let r = sends-forms m w x in (m, w, inl (two-moves (u .0)), r .0, r .1, r .2))
-      (λ (x : T (sends-or-waits s w m)). let r = sends-forms w m x in (w, m, inr (two-moves (u .0)), r .0, r .1, r .2))
-      (or-either (sends-or-waits s m w) (sends-or-waits s w m) (u .1))
+      let p = two-in-order sends-or-waits q t in
+      let r = sent-and-tick (p .0 .event) (p .1 .event) (p .3) in
+      (p .0, p .1, p .2, r .0, r .1)
 
-  -- the test of a list of moves that has two
-  abbrev two-test : List Move → Bool
-  two-test l = eqb (length l) 2 && (sends-or-waits s (getD l 0 no-move) (getD l 1 no-move) || sends-or-waits s (getD l 1 no-move) (getD l 0 no-move))
-
-  forms-delayed : IsDelayed s q → T (is-delayed s q)
+  forms-delayed : IsDelayed q → T (is-delayed q)
   unfolding is-delayed
-  forms-delayed h =
-      let m = h .0 in
-      let w = h .1 in
-      let t = forms-sends m w (h .3) (h .4) (h .5) in
-      ⊎-elim
-      (λ (e : q .moves ≡ m ∷ w ∷ []). subst⁻¹ (λ (l : List Move). T (two-test l)) e (or-left (sends-or-waits s m w) (sends-or-waits s w m) t))
-      (λ (e : q .moves ≡ w ∷ m ∷ []). subst⁻¹ (λ (l : List Move). T (two-test l)) e (or-right (sends-or-waits s w m) (sends-or-waits s m w) t))
-      (h .2)
+  forms-delayed h = order-of-two sends-or-waits q (h .0, h .1, h .2, forms-sends (h .0) (h .1) (h .3) (h .4))
 
-  kind-forms : T (kind-right s q) → HasKind s q
+  kind-forms : T (kind-right q) → HasKind q
   unfolding kind-right
   kind-forms t =
       ⊎-elim
       (λ (x : T (is-input q || is-output-only q)).
       ⊎-elim (λ (y : T (is-input q)). (input, input-forms y)) (λ (y : T (is-output-only q)). (output-only, output-forms y)) (or-either (is-input q) (is-output-only q) x))
-      (λ (x : T (is-delayed s q)). (delayed, delayed-forms x))
-      (or-either (is-input q || is-output-only q) (is-delayed s q) t)
+      (λ (x : T (is-delayed q)). (delayed, delayed-forms x))
+      (or-either (is-input q || is-output-only q) (is-delayed q) t)
 
-  forms-kind : (k : Kind) → IsKind k s q → T (kind-right s q)
+  forms-kind : (k : Kind) → IsKind k q → T (kind-right q)
   unfolding kind-right
-  forms-kind input h = or-left (is-input q || is-output-only q) (is-delayed s q) (or-left (is-input q) (is-output-only q) (forms-input h))
-  forms-kind output-only h = or-left (is-input q || is-output-only q) (is-delayed s q) (or-right (is-input q) (is-output-only q) (forms-output h))
-  forms-kind delayed h = or-right (is-input q || is-output-only q) (is-delayed s q) (forms-delayed h)
+  forms-kind input h = or-left (is-input q || is-output-only q) (is-delayed q) (or-left (is-input q) (is-output-only q) (forms-input h))
+  forms-kind output-only h = or-left (is-input q || is-output-only q) (is-delayed q) (or-right (is-input q) (is-output-only q) (forms-output h))
+  forms-kind delayed h = or-right (is-input q || is-output-only q) (is-delayed q) (forms-delayed h)
 
-  pub kind-formed : T (kind-right s q) ↔ HasKind s q
+  pub kind-formed : T (kind-right q) ↔ HasKind q
   kind-formed = (kind-forms, λ h. forms-kind (h .0) (h .1))
 
 -- ---- of a whole side
@@ -172,9 +170,9 @@ side-states-formed S = (
   λ f. each-every (λ s. state-right (length S) (state S s)) (length S) (λ s h. state-formed (length S) (state S s) .1 (f s h)),
 )
 
-pub side-kinds-formed : (S : Side) → T (kinds-right S) ↔ ((s : ℕ) → s < length S → HasKind s (state S s))
+pub side-kinds-formed : (S : Side) → T (kinds-right S) ↔ ((s : ℕ) → s < length S → HasKind (state S s))
 unfolding kinds-right
 side-kinds-formed S = (
-  λ t s h. kind-formed s (state S s) .0 (every-each (λ s. kind-right s (state S s)) (length S) t s h),
-  λ f. each-every (λ s. kind-right s (state S s)) (length S) (λ s h. kind-formed s (state S s) .1 (f s h)),
+  λ t s h. kind-formed (state S s) .0 (every-each (λ s. kind-right (state S s)) (length S) t s h),
+  λ f. each-every (λ s. kind-right (state S s)) (length S) (λ s h. kind-formed (state S s) .1 (f s h)),
 )

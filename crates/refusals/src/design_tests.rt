@@ -158,7 +158,7 @@ fn side_kinds_right(s: &[u8], i: usize) -> bool
     let mut k = 0;
     // The first k states are right.
     while k < n {
-        if !state_tests::kind_right(designs::side_state(s, i, k), k) {
+        if !state_tests::kind_right(designs::side_state(s, i, k)) {
             return false;
         }
         k += 1;

@@ -65,23 +65,20 @@ pub fn state_right(q: StateRecord, n: usize) -> bool
 
 // ---- 6
 
-// Whether m is sent and w ticks back to state k.
-fn sends_or_waits(k: usize, m: Place, w: Place) -> bool
-    ensures { λ r. ⌜ r ≡ sends-or-waits k (move-of m) (move-of w) ⌝ }
+// Whether m is sent and w is the tick.
+pub fn sends_or_waits(m: Place, w: Place) -> bool
+    ensures { λ r. ⌜ r ≡ sends-or-waits (move-of m) (move-of w) ⌝ }
 {
     if !events::is_sent(m.event) {
         return false;
     }
-    if !events::same(w.event, 0) {
-        return false;
-    }
-    w.target as usize == k
+    events::same(w.event, 0)
 }
 
-// Whether state number k is input, output-only or delayed.
-pub fn kind_right(q: StateRecord, k: usize) -> bool
+// Whether a state is input, output-only or delayed.
+pub fn kind_right(q: StateRecord) -> bool
     requires { ⌜ q .count ≤ place-count ⌝ }
-    ensures { λ r. ⌜ r ≡ kind-right k (state-of q) ⌝ }
+    ensures { λ r. ⌜ r ≡ kind-right (state-of q) ⌝ }
 {
     if !sides::sends(q) {
         return true;
@@ -94,8 +91,8 @@ pub fn kind_right(q: StateRecord, k: usize) -> bool
     }
     let a = q.places[0];
     let b = q.places[1];
-    if sends_or_waits(k, a, b) {
+    if sends_or_waits(a, b) {
         return true;
     }
-    sends_or_waits(k, b, a)
+    sends_or_waits(b, a)
 }

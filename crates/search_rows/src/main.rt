@@ -130,6 +130,29 @@ fn pair_and_third(words: &[u8], formulas: &[u8], rules: &[u8])
     five_blocks(words, &d);
 }
 
+// A design after a list of ranges.
+fn ranged(words: &[u8], d: &[u8; 2048], list: &[u8], new: &mut [u8; 2048]) {
+    let a = ranges::ranges(d, list, new);
+    match a {
+        ranges::Answer::Done => four_blocks(words, new),
+        ranges::Answer::Refused(k) => lines::line(words, k as u64),
+    }
+}
+
+// The handshake pair with A(true U 1), after s0 is given a least and a greatest count of waits.
+fn waiting(words: &[u8], least: u8, greatest: u8) {
+    let mut d = [0u8; 2048];
+    designs::design(
+        &mut d,
+        &tables::H_KERNEL,
+        &tables::H_HOST,
+        &tables::UNTIL,
+        &[2],
+    );
+    let mut new = [0u8; 2048];
+    ranged(words, &d, &[0, 0, least, greatest], &mut new);
+}
+
 fn in_turn() {
     let rules = [6];
     let mut d = [0u8; 2048];
@@ -160,6 +183,8 @@ fn main() {
         &tables::FOUR,
     );
     pair(b"search: H, A(true U 1)", &tables::UNTIL, &[2]);
+    waiting(b"search: H with s0 at 0 to 2, A(true U 1)", 0, 2);
+    waiting(b"search: H with s0 at 2 or more, A(true U 1)", 2, 255);
     in_turn();
     fork(b"search: (AX 16) or (AX 17)", &tables::EITHER, &[4]);
     fork(b"search: (AX 16) and (AX 17)", &tables::BOTH, &[4]);

@@ -27,7 +27,7 @@ const OTHER_KINDS: [u8; 2] = [3, 4];
 pub const INPUT: u8 = 0;
 /// An output-only state: a single transition, sent.
 pub const OUTPUT: u8 = 1;
-/// A delayed state: one sent, one tick back to itself.
+/// A delayed state: one sent, one tick.
 pub const DELAYED: u8 = 2;
 
 /// No target.
@@ -98,8 +98,8 @@ impl Design {
             }
         }
         for (side, &count) in sides.iter_mut().zip(&states) {
-            for (own, state) in side[..count].iter_mut().enumerate() {
-                state.kind = kind(state, own).ok_or(6)?;
+            for state in &mut side[..count] {
+                state.kind = kind(state).ok_or(6)?;
             }
         }
         let formulas: Vec<[u8; 3]> =
@@ -176,16 +176,12 @@ fn read_state(record: &[u8], states: usize) -> Option<State> {
 }
 
 /// The kind of a state.
-fn kind(state: &State, own: usize) -> Option<u8> {
+fn kind(state: &State) -> Option<u8> {
     let events = &state.events[..state.count];
     match (events.iter().filter(|&&event| event < 0).count(), state.count) {
         (0, _) => Some(INPUT),
         (1, 1) => Some(OUTPUT),
-        (1, 2) => {
-            let tick = usize::from(events[0] < 0);
-            let waits = events[tick] == 0 && usize::from(state.targets[tick]) == own;
-            waits.then_some(DELAYED)
-        }
+        (1, 2) => events.contains(&0).then_some(DELAYED),
         _ => None,
     }
 }

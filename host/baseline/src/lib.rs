@@ -9,6 +9,7 @@
 //! - [`search`](mod@search): the game over bit sets of owed formulas.
 //! - [`same`]: the proved search's own computation, over the lent work.
 //! - [`tick`](mod@tick): one tick.
+//! - [`ranges`](mod@ranges): delayed states replaced by states that count their waits.
 
 #![forbid(unsafe_code)]
 
@@ -17,12 +18,14 @@ pub mod design;
 mod joint;
 mod joints;
 pub mod judge;
+pub mod ranges;
 pub mod same;
 pub mod search;
 pub mod tick;
 
 pub use converter::{read, write};
 pub use judge::judge;
+pub use ranges::ranges;
 pub use search::search;
 pub use tick::{tick, Runner};
 

@@ -8,9 +8,10 @@ use checker::bytes::{
     State, Transition, BLOCK_BYTES, BLOCK_RECORDS, PROPOSITIONS, RECORD_BYTES, SIDES, SIDE_LABELS,
 };
 use checker::generate::{
-    any_converter, any_design, block_file, damage, damaged_converter, design, loose_converter,
-    ruled_design, script, Random, Shape,
+    any_bytes, any_converter, any_design, any_ranges, block_file, damage, damaged_converter,
+    design, flawed_list, loose_converter, ruled_design, script, waiting_design, Random, Shape,
 };
+use checker::ranges::list_bytes;
 
 /// Bytes that aren't zero.
 fn pattern(length: usize) -> Vec<u8> {
@@ -245,4 +246,32 @@ fn ticks() {
         }
     }
     assert!([0, 10, 11, 17].iter().all(|&number| answers[number] > 100), "{answers:?}");
+}
+
+#[test]
+fn ranges() {
+    let mut random = Random::new(206);
+    let mut answers = [0; 24];
+    for round in 0..30_000 {
+        let made = waiting_design(&mut random);
+        let (mut bytes, ranges) = (any_bytes(&mut random, &made), any_ranges(&mut random, &made));
+        let list = match round % 4 {
+            0 => flawed_list(&mut random, &made, &ranges).0,
+            _ => list_bytes(&ranges),
+        };
+        if random.once_in(8) {
+            damage(&mut random, &mut bytes);
+        }
+        let length = about(&mut random, bytes.len());
+        let (mut result, mut other_result) = (pattern(length), pattern(length));
+        let answer = baseline::ranges(&bytes, &list, &mut result);
+        let other = checker::ranges(&bytes, &list, &mut other_result);
+        assert_eq!(answer, other, "{list:?} {:?}", read_design(&bytes));
+        assert!(result == other_result, "{list:?} {:?}", read_design(&bytes));
+        answers[usize::from(answer.err().unwrap_or(0))] += 1;
+    }
+    for number in [0, 1, 2, 3, 4, 5, 6, 7, 8, 12, 22, 23] {
+        assert!(answers[number] > 20, "{number}: {answers:?}");
+    }
+    assert!(answers[0] > 10_000, "{answers:?}");
 }

@@ -4,6 +4,7 @@ use checker::bytes::{
     converter_bytes, idle_side, positions, Design, Formula, Link, Record, State, Transition, SIDES,
 };
 use checker::generate::{formulas, ruled_design, Random, Shape};
+use checker::ranges::{list_bytes, Range};
 
 /// A design and a converter matched to it, as bytes.
 pub struct Judged {
@@ -11,6 +12,14 @@ pub struct Judged {
     pub design: Vec<u8>,
     /// The converter.
     pub converter: Vec<u8>,
+}
+
+/// A design and a list of ranges for it, as bytes.
+pub struct Ranged {
+    /// The design.
+    pub design: Vec<u8>,
+    /// The list.
+    pub list: Vec<u8>,
 }
 
 /// Designs to search, by what they are like, in growing sizes, of which `sizes` are made.
@@ -234,11 +243,19 @@ fn levels(states: usize, ring_states: usize, untils: usize) -> Design {
 }
 
 /// Twenty random designs of two or three sides, with at most so many positions and more than
-/// half; all of their sides, or only labels and rules over two rings that tick on.
+/// half; all of their sides, or only labels and rules over two rings that tick on. The tick of
+/// a delayed state leads back to it: it may wait for ever.
 fn random(sides: usize, size: usize, over_rings: bool) -> Vec<Design> {
     let mut random = Random::new(size as u64);
-    let shape =
-        Shape { sides, transitions: 4, propositions: 3, formulas: 24, rules: 5, ..Shape::FULL };
+    let shape = Shape {
+        sides,
+        transitions: 4,
+        propositions: 3,
+        formulas: 24,
+        rules: 5,
+        ticks_lead_on: false,
+        ..Shape::FULL
+    };
     let mut made = Vec::new();
     while made.len() < 20 {
         let mut design = ruled_design(&mut random, &shape);
@@ -368,4 +385,28 @@ fn chain(records: usize, shuffled: bool, (formulas, rules): (Vec<Formula>, Vec<u
         converter[own].links.push(Link { events: [event, 0, 0], next: next as u16 });
     }
     Judged { design: design.to_bytes(), converter: converter_bytes(&converter) }
+}
+
+/// Designs of three sides and 64 formulas, with lists of growing length, of which `sizes` are made.
+/// Each side has 16 states afterwards: one that waits up to fifteen times before, or four that
+/// wait up to three times, or sixteen that wait no more.
+pub fn ranges(sizes: usize) -> Vec<Ranged> {
+    [1, 4, 16].into_iter().take(sizes).map(ranged).collect()
+}
+
+/// So many states that wait on each side, with a range for each.
+fn ranged(states: usize) -> Ranged {
+    let side = || (0..states).map(|own| state(1, &[(0, own), (-1, (own + 1) % states)])).collect();
+    let (formulas, rules) = many_formulas();
+    let design = Design { sides: [(); SIDES].map(|()| side()), formulas, rules };
+    let greatest = 16 / states - 1;
+    let entry = |side: usize, state: usize| Range {
+        side,
+        state,
+        least: greatest as u8 / 2,
+        greatest: Some(greatest as u8),
+    };
+    let entries = (0..SIDES).flat_map(|side| (0..states).map(move |own| (side, own)));
+    let ranges: Vec<Range> = entries.map(|(side, own)| entry(side, own)).collect();
+    Ranged { design: design.to_bytes(), list: list_bytes(&ranges) }
 }

@@ -16,8 +16,8 @@ use std::hint::black_box;
 use std::time::{Duration, Instant};
 
 use checker::bytes::{positions, Design};
-use gorzhani::{Refused, BLOCK, BLOCK_RECORDS, CELL, RECORD};
-use inputs::Judged;
+use gorzhani::{Refused, BLOCK, BLOCK_RECORDS, CELL, ENTRY, RECORD};
+use inputs::{Judged, Ranged};
 
 /// A larger size is left out once a call took this long.
 const TOO_LONG: Duration = Duration::from_secs(2);
@@ -87,6 +87,12 @@ fn main() -> Result<(), String> {
         });
         table(job, "records", rows);
     }
+    let lists = inputs::ranges(extent.sizes);
+    let rows = lists.iter().map(|made| {
+        let entries = made.list.len() / ENTRY;
+        (entries as u128, move || ranges(extent, made))
+    });
+    table("1,000 times ranges", "entries", rows);
     Ok(())
 }
 
@@ -291,4 +297,26 @@ fn ticks(extent: Extent, converter: &[u8]) -> [Duration; 2] {
             black_box(baseline());
         },
     ])
+}
+
+fn ranges(extent: Extent, made: &Ranged) -> [Duration; 2] {
+    const CALLS: usize = 1_000;
+    let mut result = vec![0; made.design.len()];
+    let mut other_result = result.clone();
+    let times = extent.shortest([
+        &mut || {
+            for _ in 0..CALLS {
+                let answer = gorzhani::ranges(&made.design, &made.list, &mut result);
+                assert_eq!(black_box(answer), Ok(()));
+            }
+        },
+        &mut || {
+            for _ in 0..CALLS {
+                let answer = baseline::ranges(&made.design, &made.list, &mut other_result);
+                assert_eq!(black_box(answer), Ok(()));
+            }
+        },
+    ]);
+    assert!(result == other_result);
+    times
 }

@@ -1,6 +1,8 @@
-//! Seeded random designs, converters and converter files, sound and damaged.
+//! Seeded random designs, converters, converter files and lists of ranges, sound and damaged.
 //!
 //! The same seed always gives the same things.
+
+mod ranges;
 
 use std::array::from_fn;
 use std::collections::BTreeSet;
@@ -13,6 +15,8 @@ use crate::bytes::{
 use crate::joined::{enabling, joint_states, proposition, steps, Enabling, Joint, Step};
 use crate::judge::model;
 use crate::tick::{tick, PlainSides, Runner};
+
+pub use ranges::{any_ranges, flawed_list, waiting_design, with_waits, Flaw};
 
 /// A xorshift generator.
 #[derive(Clone, Debug)]
@@ -83,12 +87,22 @@ pub struct Shape {
     pub formulas: usize,
     /// The most rules.
     pub rules: usize,
+    /// Whether the tick of a delayed state may lead to another state; half of them do then,
+    /// where the side has more than one.
+    pub ticks_lead_on: bool,
 }
 
 impl Shape {
     /// Small enough to try every converter of three records.
-    pub const TINY: Shape =
-        Shape { sides: SIDES, states: 2, transitions: 2, propositions: 2, formulas: 7, rules: 2 };
+    pub const TINY: Shape = Shape {
+        sides: SIDES,
+        states: 2,
+        transitions: 2,
+        propositions: 2,
+        formulas: 7,
+        rules: 2,
+        ticks_lead_on: true,
+    };
     /// A few states and formulas.
     pub const SMALL: Shape =
         Shape { states: 4, transitions: 3, propositions: 3, formulas: 12, rules: 3, ..Shape::TINY };
@@ -100,6 +114,7 @@ impl Shape {
         propositions: 16,
         formulas: 64,
         rules: 16,
+        ticks_lead_on: true,
     };
 }
 
@@ -178,9 +193,7 @@ fn state(random: &mut Random, shape: &Shape, own: usize, states: usize, reads: b
     let mut transitions = match kind {
         StateKind::Input => inputs(random, shape, states),
         StateKind::OutputOnly => vec![sending(random, states)],
-        StateKind::Delayed => {
-            vec![sending(random, states), Transition { event: 0, target: own as u8 }]
-        }
+        StateKind::Delayed => vec![sending(random, states), wait(random, shape, own, states)],
     };
     random.shuffle(&mut transitions);
     State { label: label(random, shape), transitions }
@@ -190,6 +203,13 @@ fn state(random: &mut Random, shape: &Shape, own: usize, states: usize, reads: b
 /// that a test tells whether one side's label is taken for another's.
 fn label(random: &mut Random, shape: &Shape) -> u16 {
     (random.bits() >> 16) as u16 & (u16::MAX >> (SIDE_LABELS - shape.propositions))
+}
+
+/// The tick of a delayed state, back to itself or on to another.
+fn wait(random: &mut Random, shape: &Shape, own: usize, states: usize) -> Transition {
+    let leads_on = shape.ticks_lead_on && states > 1 && random.once_in(2);
+    let target = if leads_on { (own + random.from_to(1, states - 1)) % states } else { own };
+    Transition { event: 0, target: target as u8 }
 }
 
 /// A transition that sends.

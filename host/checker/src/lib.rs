@@ -14,7 +14,10 @@
 //! - [`none`]: is there no converter at all, by another method than the search.
 //! - [`brute`]: every converter of up to three records, tried in turn.
 //! - [`tick`](mod@tick): the running converter, the plain sides, the claim about runs.
-//! - [`generate`]: seeded random designs, converters and files, sound and damaged.
+//! - [`ranges`](mod@ranges): delayed states replaced by states that count their waits, and
+//!   any such table against the old one with counted waits.
+//! - [`generate`]: seeded random designs, converters, files and lists of ranges, sound and
+//!   damaged.
 
 #![forbid(unsafe_code)]
 
@@ -25,10 +28,12 @@ pub mod generate;
 pub mod joined;
 pub mod judge;
 pub mod none;
+pub mod ranges;
 pub mod refusal;
 pub mod search;
 pub mod tick;
 
 pub use judge::judge;
+pub use ranges::ranges;
 pub use search::search;
 pub use tick::tick;

@@ -34,6 +34,10 @@ pub const RULE: u8 = 15;
 pub const NONE: u8 = 16;
 /// The tick has no transition to take.
 pub const TICK: u8 = 17;
+/// A list of ranges is wrong.
+pub const RANGES: u8 = 22;
+/// A side has too many states after replacement.
+pub const TOO_MANY_STATES: u8 = 23;
 
 /// Declines with `number` unless `holds`.
 pub(crate) fn demand(holds: bool, number: u8) -> Result<(), u8> {

@@ -22,7 +22,7 @@ fn duties_by_number() {
             for design in designs(number, joint) {
                 let joint = joint.map(usize::from);
                 let of_sides = from_fn(|side| {
-                    let kind = design.sides[side][joint[side]].kind(joint[side]);
+                    let kind = design.sides[side][joint[side]].kind();
                     KINDS.iter().position(|&own| Some(own) == kind).expect("it is of a kind")
                 });
                 assert_eq!(kinds(number), of_sides, "{design:?}");

@@ -7,7 +7,7 @@ use std::collections::{BTreeMap, BTreeSet};
 
 use checker::bytes::{
     converter_bytes, read_blocks, read_converter_memory, read_design, write_blocks, Design,
-    Formula, StateKind,
+    Formula, State, StateKind, Transition,
 };
 use checker::generate::{
     any_bytes, any_converter, any_design, block_file, damage, damaged_converter, design,
@@ -26,14 +26,18 @@ fn sound_designs_are_read_as_written() {
     let mut kinds: BTreeMap<String, usize> = BTreeMap::new();
     let mut named: BTreeSet<u8> = BTreeSet::new();
     let mut lengths: BTreeMap<usize, usize> = BTreeMap::new();
+    let mut waits: BTreeMap<[bool; 3], usize> = BTreeMap::new();
     for round in 0..6_000 {
         let made = design(&mut random, &SHAPES[round % 3]);
         let bytes = made.to_bytes();
         assert_eq!(read_design(&bytes), Ok(made.clone()));
         assert_eq!(read_design(&made.to_five_blocks()), Ok(made.clone()));
         *lengths.entry(bytes.len()).or_default() += 1;
-        let start = made.sides.each_ref().map(|side| side[0].kind(0).unwrap());
+        let start = made.sides.each_ref().map(|side| side[0].kind().unwrap());
         *mixes.entry(format!("{start:?}")).or_default() += 1;
+        for ways in made.sides.iter().flat_map(|side| ways_to_wait(side)) {
+            *waits.entry(ways).or_default() += 1;
+        }
         for formula in &made.formulas {
             let name = format!("{formula:?}");
             *kinds.entry(name.split('(').next().unwrap().to_string()).or_default() += 1;
@@ -51,6 +55,27 @@ fn sound_designs_are_read_as_written() {
     assert_eq!(named, (0..48).collect());
     assert_eq!(lengths.keys().collect::<Vec<_>>(), [&2_048, &2_560], "{lengths:?}");
     assert!(lengths.values().all(|&times| times > 1_000), "{lengths:?}");
+    // Delayed states of each sort come.
+    assert_eq!(waits.len(), 8, "{waits:?}");
+    assert!(waits.values().all(|&times| times > 500), "{waits:?}");
+}
+
+/// Of each delayed state of a side: whether its tick leads back to it, whether its send does,
+/// and whether the tick stands first.
+fn ways_to_wait(side: &[State]) -> Vec<[bool; 3]> {
+    let ways = |(own, state): (usize, &State)| {
+        let back = |transition: &Transition| usize::from(transition.target) == own;
+        match state.transitions[..] {
+            [tick, send] if tick.event == 0 && send.event < 0 => {
+                Some([back(&tick), back(&send), true])
+            }
+            [send, tick] if tick.event == 0 && send.event < 0 => {
+                Some([back(&tick), back(&send), false])
+            }
+            _ => None,
+        }
+    };
+    side.iter().enumerate().filter_map(ways).collect()
 }
 
 /// The design as bytes of this length.
@@ -252,13 +277,14 @@ fn any_converter_is_judged() {
 #[test]
 fn kinds_of_states() {
     use samples::state;
-    let kind = |transitions: &[(i8, u8)]| state(&[], transitions).kind(0);
+    let kind = |transitions: &[(i8, u8)]| state(&[], transitions).kind();
     assert_eq!(kind(&[(0, 1)]), Some(StateKind::Input));
     assert_eq!(kind(&[(0, 0), (5, 1), (63, 0)]), Some(StateKind::Input));
     assert_eq!(kind(&[(-5, 1)]), Some(StateKind::OutputOnly));
     assert_eq!(kind(&[(-5, 1), (0, 0)]), Some(StateKind::Delayed));
     assert_eq!(kind(&[(0, 0), (-63, 0)]), Some(StateKind::Delayed));
-    assert_eq!(kind(&[(0, 1), (-5, 1)]), None);
+    assert_eq!(kind(&[(0, 1), (-5, 1)]), Some(StateKind::Delayed));
+    assert_eq!(kind(&[(-5, 0), (0, 15)]), Some(StateKind::Delayed));
     assert_eq!(kind(&[(5, 0), (-5, 1)]), None);
     assert_eq!(kind(&[(-4, 0), (-5, 1)]), None);
     assert_eq!(kind(&[(0, 0), (-5, 1), (1, 0)]), None);

@@ -14,7 +14,8 @@ use checker::bytes::{
 use checker::generate::{loose_converter, Random};
 use checker::tick::Runner;
 use samples::{
-    figure_five, four_rules, handshake, judged, pattern, record, ruled_handshake, state, BEYOND,
+    figure_five, four_rules, handshake, judged, pattern, record, ruled_handshake, state, state_at,
+    with_faults, BEYOND,
 };
 
 /// Bytes that get other values, and the number with which they are then refused.
@@ -83,11 +84,6 @@ fn samples_of_designs() -> [Sample; 2] {
     ]
 }
 
-/// Where a state record of a side begins, in a design.
-fn state_at(side: usize, state: usize) -> usize {
-    512 * side + 4 + 20 * state
-}
-
 /// Faults of a sample, numbers 3 to 8.
 fn design_faults(sample: &Sample) -> Vec<Fault> {
     let mut faults = Vec::new();
@@ -124,20 +120,20 @@ fn design_faults(sample: &Sample) -> Vec<Fault> {
         // Right behind the last record.
         faults.push(fault(8, &[(state_at(side, 2), 1)]));
     }
-    // s0 ticks to s1 beside -1; s1 reads beside -2; s1 sends twice.
-    faults.push(fault(6, &[(state_at(0, 0) + 5, 1)]));
+    // s0 reads beside -1, and s1 beside -2; s1 sends twice.
+    faults.push(fault(6, &[(state_at(0, 0) + 4, 7)]));
     faults.push(fault(6, &[(state_at(0, 1) + 4, 7)]));
     faults.push(fault(6, &[(state_at(0, 1) + 4, 255)]));
-    // t0 ticks and sends, but its tick is made to lead away; t0 reads and sends.
-    faults.push(fault(6, &[(state_at(1, 0) + 6, 255), (state_at(1, 0) + 5, 1)]));
+    // t0 reads and sends; t0 ticks, reads and sends.
     faults.push(fault(6, &[(state_at(1, 0) + 4, 2), (state_at(1, 0) + 6, 255)]));
+    faults.push(fault(6, &[(state_at(1, 0) + 2, 3), (state_at(1, 0) + 8, 254)]));
     // t1 sends a second event, a third transition beside those of a delayed state.
     let third = state_at(1, 1);
     faults.push(fault(6, &[(third + 2, 3), (third + 6, 0xFE), (third + 8, 0xFD)]));
     if sample.sides() == 3 {
         // The same of the third side's states: the one ticks and sends, the other reads.
-        faults.push(fault(6, &[(state_at(2, 0) + 5, 1)]));
         faults.push(fault(6, &[(state_at(2, 0) + 4, 7)]));
+        faults.push(fault(6, &[(state_at(2, 0) + 2, 3), (state_at(2, 0) + 8, 9)]));
         faults.push(fault(6, &[(state_at(2, 1) + 2, 2), (state_at(2, 1) + 6, 255)]));
     }
 
@@ -188,6 +184,33 @@ fn faults_of_a_design() {
             fault.apply(&mut bytes);
             assert_eq!(read_design(&bytes), Err(2), "{:?}", fault.changes);
         }
+    }
+}
+
+#[test]
+fn a_delayed_states_tick_leads_anywhere() {
+    for sample in samples_of_designs() {
+        let sides = sample.design.sides.iter().take(sample.sides()).enumerate();
+        let states = sides.flat_map(|(side, states)| (0..states.len()).map(move |own| (side, own)));
+        let mut delayed = 0;
+        for (side, own) in states {
+            let transitions = &sample.design.sides[side][own].transitions;
+            let [sent, tick] = [-1, 0].map(|sign: i8| {
+                transitions.iter().position(|transition| transition.event.signum() == sign)
+            });
+            let (Some(sent), Some(tick)) = (sent, tick) else { continue };
+            delayed += 1;
+            for (target, turned) in [(0, false), (1, false), (0, true), (1, true)] {
+                let mut made = sample.design.clone();
+                made.sides[side][own].transitions[tick].target = target;
+                if turned {
+                    made.sides[side][own].transitions.swap(sent, tick);
+                }
+                assert_eq!(read_design(&made.to_bytes()), Ok(made), "{side} {own} {target}");
+            }
+        }
+        // s0 and s1, and a state of the third side.
+        assert_eq!(delayed, sample.sides());
     }
 }
 
@@ -527,30 +550,10 @@ fn design_with(wrong: &BTreeSet<u8>, blocks: usize) -> Vec<u8> {
         formulas.extend([Formula::Always(0); 7]);
     }
     let design = handshake(formulas, rules);
-    let mut bytes = if blocks == 4 { design.to_bytes() } else { design.to_five_blocks() };
+    let bytes = if blocks == 4 { design.to_bytes() } else { design.to_five_blocks() };
     assert_eq!(bytes.len(), 512 * blocks);
-    let (last_side, formulas, rules) = (blocks - 3, 512 * (blocks - 2), 512 * (blocks - 1));
-    let changes = [
-        (3, formulas, 4),
-        (4, formulas + 1, 65),
-        (5, state_at(last_side, 0) + 5, 2),
-        (6, state_at(0, 1) + 5, 0),
-        (7, rules + 4, 64),
-        (8, 512 * last_side + 509, 1),
-    ];
-    for (number, at, value) in changes {
-        if wrong.contains(&number) {
-            bytes[at] = value;
-        }
-    }
-    seal(&mut bytes);
-    if wrong.contains(&2) {
-        bytes[rules + 511] ^= 255;
-    }
-    if wrong.contains(&1) {
-        bytes.push(0);
-    }
-    bytes
+    let last_side = blocks - 3;
+    with_faults(bytes, last_side, |number| wrong.contains(&number))
 }
 
 #[test]

@@ -7,9 +7,9 @@ use checker::bytes::{check, converter_bytes, positions, read_design, Formula, Re
 use checker::judge::failing_rules;
 use checker::tick::Runner;
 use samples::{
-    design, figure_five, handshake, judged_well, lock_and_menu, lock_and_menu_converter,
-    mistaken_labels, next_sixteen_next_seventeen, record, rings, ruled_handshake, searched, state,
-    ticking_in_turn, two_inputs,
+    design, figure_five, handshake, judged_well, leading_on, lock_and_menu,
+    lock_and_menu_converter, mistaken_labels, next_sixteen_next_seventeen, record, rings,
+    ruled_handshake, searched, state, ticking_in_turn, two_inputs, wait_leading_to,
 };
 
 #[test]
@@ -183,8 +183,25 @@ fn tick_to_another_state_beside_a_sent_event() {
         let side = vec![state(&[], &[(0, target), (-1, 0)]), state(&[], &[(0, 0)])];
         design([side], vec![], vec![])
     };
-    assert_eq!(read_design(&waiting(0).to_bytes()), Ok(waiting(0)));
-    assert_eq!(read_design(&waiting(1).to_bytes()), Err(6));
+    for target in [0, 1] {
+        assert_eq!(read_design(&waiting(target).to_bytes()), Ok(waiting(target)));
+    }
+    assert_eq!(read_design(&waiting(2).to_bytes()), Err(5));
+}
+
+#[test]
+fn a_wait_that_leads_on() {
+    // Whether s0 sends or waits, s1 comes with it, where 0 holds; unless the wait stays.
+    assert_eq!(searched(&wait_leading_to(0)).err(), Some(16));
+    let leads_on = wait_leading_to(1);
+    assert!(searched(&leads_on).is_ok());
+    // Neither may be held back: s0 is delayed, whatever its tick leads to.
+    assert_eq!(judged_well(&leads_on, &converter_bytes(&leading_on())), Ok(()));
+    for left_out in [0, 1] {
+        let mut fewer = leading_on();
+        fewer[0].links.remove(left_out);
+        assert_eq!(judged_well(&leads_on, &converter_bytes(&fewer)), Err(14));
+    }
 }
 
 #[test]

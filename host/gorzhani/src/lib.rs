@@ -20,6 +20,12 @@ pub const BLOCK_RECORDS: usize = 9;
 pub const CELL: usize = 16;
 /// The most positions of a design that is searched, and the most records of a converter.
 pub const MOST: usize = 65_536;
+/// The bytes of an entry in a list of ranges: side (0 to 2), state, least and greatest count of waits.
+pub const ENTRY: usize = 4;
+/// The most waits that an entry speaks of.
+pub const MOST_WAITS: u8 = 15;
+/// The greatest count of an entry whose state may wait for ever.
+pub const NO_GREATEST: u8 = 255;
 
 /// The record that a runner stands at, and the events last delivered to the sides.
 #[repr(C)]
@@ -72,6 +78,14 @@ extern "C" {
         first: i8,
         second: i8,
         third: i8,
+    ) -> i32;
+    fn gorzhani_ranges(
+        design: *const u8,
+        design_len: usize,
+        entries: *const u8,
+        entries_len: usize,
+        result: *mut u8,
+        result_len: usize,
     ) -> i32;
 }
 
@@ -142,6 +156,23 @@ pub fn tick(converter: &[u8], runner: &mut Runner, shown: [i8; 3]) -> Result<(),
     // SAFETY: as above; `Runner` has the layout and the alignment of the header's struct.
     answer(unsafe {
         gorzhani_tick(converter.as_ptr(), converter.len(), runner, first, second, third)
+    })
+    .map(|_| ())
+}
+
+/// Replaces delayed states by states that count their waits, as a list of entries of [`ENTRY`] bytes says: lend as many bytes as the design has. The new design
+/// stands at the front of the result.
+pub fn ranges(design: &[u8], entries: &[u8], result: &mut [u8]) -> Result<(), Refused> {
+    // SAFETY: as above; the design and the entries are only read.
+    answer(unsafe {
+        gorzhani_ranges(
+            design.as_ptr(),
+            design.len(),
+            entries.as_ptr(),
+            entries.len(),
+            result.as_mut_ptr(),
+            result.len(),
+        )
     })
     .map(|_| ())
 }

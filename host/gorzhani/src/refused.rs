@@ -53,6 +53,10 @@ refusals! {
     NO_CONVERTER = 16, "no converter exists, of any size";
     TICK = 17, "the runner's record isn't there, a shown event is above 0 or below -63, or no \
         transition fits";
+    RANGES = 22, "a list of ranges is no multiple of 4 bytes, or an entry of it has a side over 2, \
+        a state that isn't there or isn't delayed with its tick to itself, a count over 15 that \
+        isn't 255 as the greatest, a least count above the greatest, or a state named before";
+    TOO_MANY_STATES = 23, "a side has over 16 states after replacement";
 }
 
 impl Display for Refused {

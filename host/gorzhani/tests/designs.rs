@@ -84,10 +84,8 @@ fn full_of_kinds() -> [Design; 2] {
         let shape = Shape { states: 3, formulas: 14, ..Shape::SMALL };
         let made = ruled_design(&mut random, &shape);
         let kinds: HashSet<_> = made.formulas.iter().map(discriminant).collect();
-        let states = made.sides.iter().flat_map(|side| {
-            side.iter().enumerate().map(|(own, state)| discriminant(&state.kind(own).unwrap()))
-        });
-        let states: HashSet<_> = states.collect();
+        let states = made.sides.iter().flatten();
+        let states: HashSet<_> = states.map(|state| discriminant(&state.kind().unwrap())).collect();
         let third = made.sides[2].len() > 1;
         if kinds.len() >= 7 && states.len() == 3 && third && positions(&made) <= 1 << 10 {
             let mut idle = made.clone();

@@ -104,7 +104,7 @@ fn beside_the_smallest(sides: usize, designs: usize) -> [usize; 3] {
 
 #[test]
 fn close_to_the_smallest() {
-    // A little below what was found: 973 of two sides and 943 of three.
+    // A little below what was found: 971 of two sides and 944 of three.
     for (sides, most, least) in [(2, 103, 960), (3, 104, 930)] {
         let [ours, smallest, equal] = beside_the_smallest(sides, 1_000);
         assert!(equal > least, "{equal} of 1,000 are as small as can be");

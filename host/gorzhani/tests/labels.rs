@@ -16,10 +16,10 @@ use checker::generate::{
 };
 use checker::judge::failing_rules;
 use checker::search::find;
-use common::{judge_agrees, record_bytes, search_agrees, size, Answers};
+use common::{judge_agrees, search_agrees, size, Answers};
 use gorzhani::{Refused, BLOCK, CELL, RECORD};
 use meanings::of_some_side;
-use samples::{one_record, ticking};
+use samples::{one_record, record_bytes, ticking};
 
 /// The most positions of a sound design here.
 const MOST: u128 = 1 << 10;

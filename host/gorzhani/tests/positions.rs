@@ -7,11 +7,12 @@ mod samples;
 
 use checker::bytes::{idle_side, seal, Formula};
 use checker::generate::{any_bytes, any_design, damage, ruled_design, Random, Shape};
-use common::{mixed_design, positions_agrees, record_bytes, Answers};
+use common::{mixed_design, positions_agrees, Answers};
 use gorzhani::{Refused, BLOCK, CELL, FIVE_BLOCKS, FOUR_BLOCKS, RECORD};
 use samples::{
-    design, four_choices, handshake, lock_and_menu, next_sixteen_next_seventeen, rings,
-    ruled_handshake, three_delayed, three_rings, thumbnails, ticking_in_turn, two_inputs, viewer,
+    design, four_choices, handshake, lock_and_menu, next_sixteen_next_seventeen, record_bytes,
+    rings, ruled_handshake, three_delayed, three_rings, thumbnails, ticking_in_turn, two_inputs,
+    viewer,
 };
 
 /// The rows of the specification, with the count that stands there.

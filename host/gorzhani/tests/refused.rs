@@ -5,9 +5,17 @@ mod common;
 use std::collections::BTreeSet;
 use std::error::Error;
 
-use checker::refusal;
+use checker::{ranges, refusal};
 use common::header;
-use gorzhani::{Refused, BLOCK, BLOCK_RECORDS, CELL, FIVE_BLOCKS, FOUR_BLOCKS, MOST, RECORD};
+use gorzhani::{
+    Refused, BLOCK, BLOCK_RECORDS, CELL, ENTRY, FIVE_BLOCKS, FOUR_BLOCKS, MOST, MOST_WAITS,
+    NO_GREATEST, RECORD,
+};
+
+/// The numbers that there are.
+fn numbers() -> impl Iterator<Item = u8> {
+    (1..=17).chain(22..=23)
+}
 
 /// What stands behind the number.
 fn wrong(number: u8) -> String {
@@ -37,8 +45,11 @@ fn each_number_says_what_is_wrong() {
         "some rule doesn't hold",
         "no converter exists",
         "a shown event is above 0 or below -63",
+        "a list of ranges",
+        "over 16 states after replacement",
     ];
-    for (own, word) in (1..).zip(words) {
+    assert_eq!(numbers().count(), words.len());
+    for (own, word) in numbers().zip(words) {
         let saying: Vec<u8> = (0..=255).filter(|&number| wrong(number).contains(word)).collect();
         assert_eq!(saying, [own], "{word}");
     }
@@ -46,9 +57,10 @@ fn each_number_says_what_is_wrong() {
 
 #[test]
 fn other_numbers_are_unknown() {
-    let known: BTreeSet<String> = (1..=17).map(wrong).collect();
-    assert_eq!(known.len(), 17);
-    let unknown: BTreeSet<String> = (18..=255).chain([0]).map(wrong).collect();
+    let known: BTreeSet<String> = numbers().map(wrong).collect();
+    assert_eq!(known.len(), numbers().count());
+    let others = (0..=255).filter(|&number| numbers().all(|known| known != number));
+    let unknown: BTreeSet<String> = others.map(wrong).collect();
     assert_eq!(unknown.len(), 1);
     assert!(unknown.is_disjoint(&known));
 }
@@ -84,8 +96,11 @@ fn constants() {
         ("RULE", Refused::RULE, refusal::RULE),
         ("NO_CONVERTER", Refused::NO_CONVERTER, refusal::NONE),
         ("TICK", Refused::TICK, refusal::TICK),
+        ("RANGES", Refused::RANGES, refusal::RANGES),
+        ("TOO_MANY_STATES", Refused::TOO_MANY_STATES, refusal::TOO_MANY_STATES),
     ];
-    for (own, (name, Refused(number), other)) in (1..).zip(named) {
+    assert_eq!(numbers().count(), named.len());
+    for (own, (name, Refused(number), other)) in numbers().zip(named) {
         let declared = header(&format!("GORZHANI_REFUSED_{name}"));
         assert_eq!((number, other, declared), (own, own, usize::from(own)), "{name}");
     }
@@ -102,7 +117,14 @@ fn constants() {
         ("MOST_TABLE_BYTES", 52 * 65_536),
         ("MOST_WORK_BYTES", 16 * 65_536),
         ("MOST_BLOCKS_BYTES", 512 * 7_282),
+        ("ENTRY_BYTES", ENTRY),
+        ("MOST_WAITS", usize::from(MOST_WAITS)),
+        ("NO_GREATEST", usize::from(NO_GREATEST)),
     ] {
         assert_eq!(header(&format!("GORZHANI_{name}")), size, "{name}");
     }
+    assert_eq!(
+        (ENTRY, MOST_WAITS, NO_GREATEST),
+        (ranges::ENTRY_BYTES, ranges::MOST_WAITS, ranges::NO_GREATEST)
+    );
 }

@@ -10,9 +10,10 @@ use common::{found, judge_agrees, search_agrees, tick_agrees};
 use gorzhani::{Runner, BLOCK, CELL, FIVE_BLOCKS, FOUR_BLOCKS, RECORD};
 use samples::{
     design, events_at_four_choices, events_of_three_delayed, figure_five, four_choices, handshake,
-    lock_and_menu, lock_and_menu_converter, mistaken_labels, next_sixteen_next_seventeen,
-    one_record, record, reordered, ruled_handshake, state, three_delayed, thumbnails,
-    ticking_in_turn, two_inputs, viewer, viewer_once, ORDERS,
+    leading_on, lock_and_menu, lock_and_menu_converter, mistaken_labels,
+    next_sixteen_next_seventeen, one_record, record, reordered, ruled_handshake, state,
+    three_delayed, thumbnails, ticking_in_turn, two_inputs, viewer, viewer_once, wait_leading_to,
+    ORDERS,
 };
 
 /// The answer to a search with the lengths that are demanded; 0 is a converter. Where a design has
@@ -142,7 +143,25 @@ fn events_and_ticks_at_the_edge() {
         let waiting =
             |target| beside(vec![state(&[], &[(0, target), (-1, 0)]), state(&[], &[(0, 0)])]);
         assert_eq!(searched(&waiting(0)), 0);
-        assert_eq!(searched(&waiting(1)), 6);
+        assert_eq!(searched(&waiting(1)), 0);
+        assert_eq!(searched(&waiting(2)), 5);
+    }
+}
+
+/// Whether s0 sends or waits, s1 comes with it, where 0 holds; unless the wait stays.
+#[test]
+fn a_wait_that_leads_on() {
+    let [stays, leads_on] = [0, 1].map(wait_leading_to);
+    for order in ORDERS {
+        assert_eq!(searched(&reordered(&stays, order)), 16);
+        assert_eq!(searched(&reordered(&leads_on, order)), 0);
+    }
+    // Neither may be held back: s0 is delayed, whatever its tick leads to.
+    assert_eq!(judged(&leads_on, &leading_on()), 0);
+    for left_out in [0, 1] {
+        let mut fewer = leading_on();
+        fewer[0].links.remove(left_out);
+        assert_eq!(judged(&leads_on, &fewer), 14);
     }
 }
 

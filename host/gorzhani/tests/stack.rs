@@ -5,16 +5,21 @@
 mod common;
 #[path = "../../checker/tests/samples/mod.rs"]
 mod samples;
+#[path = "../../checker/tests/waits/mod.rs"]
+mod waits;
 
 use std::arch::asm;
 
 use checker::bytes::{converter_bytes, Formula, SIDES};
 use checker::generate::{
-    any_bytes, any_converter, block_file, damage, loose_converter, script, Random,
+    any_bytes, any_converter, any_ranges, block_file, damage, flawed_list, loose_converter, script,
+    waiting_design, Random,
 };
+use checker::ranges::list_bytes;
 use common::{header, mixed_design, Answers};
-use gorzhani::{Runner, BLOCK, BLOCK_RECORDS, CELL, MOST, RECORD};
+use gorzhani::{Runner, BLOCK, BLOCK_RECORDS, CELL, FIVE_BLOCKS, MOST, RECORD};
 use samples::{rings, three_rings};
+use waits::rows_at_the_limit;
 
 // The library's functions, to be called by hand.
 extern "C" {
@@ -24,6 +29,7 @@ extern "C" {
     fn gorzhani_write();
     fn gorzhani_read();
     fn gorzhani_tick();
+    fn gorzhani_ranges();
 }
 
 /// Sixteen bytes of a stack, aligned as the convention asks for.
@@ -75,6 +81,15 @@ impl Call {
         answer
     }
 
+    /// The same for a function that answers 0 or a refusal, and nothing else.
+    ///
+    /// # Safety
+    /// As above.
+    unsafe fn done(&mut self, arguments: [usize; 6]) {
+        let answer = self.with(arguments);
+        assert!(answer <= 0, "{answer}");
+    }
+
     /// Asks that the answers were these numbers, and that no call took more stack than this
     /// constant of the header.
     fn took(&self, numbers: &[usize], most: &str) {
@@ -94,6 +109,7 @@ struct Calls {
     write: Call,
     read: Call,
     tick: Call,
+    ranges: Call,
 }
 
 impl Calls {
@@ -105,6 +121,7 @@ impl Calls {
             write: Call::new(gorzhani_write),
             read: Call::new(gorzhani_read),
             tick: Call::new(gorzhani_tick),
+            ranges: Call::new(gorzhani_ranges),
         }
     }
 
@@ -133,7 +150,7 @@ impl Calls {
             (written(&mut work), written(&mut file));
         // SAFETY: as above.
         unsafe {
-            self.judge.with([design_at, design_length, at, length, work_at, work_length]);
+            self.judge.done([design_at, design_length, at, length, work_at, work_length]);
             self.write.with([at, length, file_at, file_length, 0, 0]);
         }
         self.file(&file);
@@ -153,7 +170,18 @@ impl Calls {
         let [first, second, third] = shown.map(|event| event as usize);
         let runner: *mut Runner = runner;
         // SAFETY: as above; the runner is lent and nothing else refers to it.
-        unsafe { self.tick.with([at, length, runner as usize, first, second, third]) };
+        unsafe { self.tick.done([at, length, runner as usize, first, second, third]) };
+    }
+
+    /// Replaces states with so many bytes lent.
+    fn ranges(&mut self, design: &[u8], list: &[u8], lent: usize) {
+        let mut result = vec![0; lent];
+        let ([at, length], [list_at, list_length]) = (read(design), read(list));
+        let [result_at, result_length] = written(&mut result);
+        // SAFETY: as above.
+        unsafe {
+            self.ranges.done([at, length, list_at, list_length, result_at, result_length]);
+        }
     }
 }
 
@@ -188,6 +216,22 @@ fn no_call_takes_more_than_the_header_says() {
         let mut file = block_file(&mut random, 40);
         damage(&mut random, &mut file);
         calls.file(&file);
+
+        let made = waiting_design(&mut random);
+        let (mut bytes, ranges) = (any_bytes(&mut random, &made), any_ranges(&mut random, &made));
+        let list = match random.below(3) {
+            0 => flawed_list(&mut random, &made, &ranges).0,
+            _ => list_bytes(&ranges),
+        };
+        if random.once_in(2) {
+            damage(&mut random, &mut bytes);
+        }
+        let lent = bytes.len().saturating_sub(usize::from(random.once_in(8)));
+        calls.ranges(&bytes, &list, lent);
+    }
+    // As many states as a side may have, and as many entries as a list.
+    for (full, list, _) in rows_at_the_limit() {
+        calls.ranges(&full.to_five_blocks(), &list, FIVE_BLOCKS);
     }
     // As many positions and as many records as there may be.
     let most = converter_bytes(&loose_converter(&mut random, MOST));
@@ -205,4 +249,6 @@ fn no_call_takes_more_than_the_header_says() {
     calls.write.took(&[0, 10, 11], "GORZHANI_WRITE_STACK");
     calls.read.took(&[0, 1, 2, 3, 4, 8, 11], "GORZHANI_READ_STACK");
     calls.tick.took(&[0, 10, 11, 17], "GORZHANI_TICK_STACK");
+    let replaced = [0, 1, 2, 3, 4, 5, 6, 7, 8, 12, 22, 23];
+    calls.ranges.took(&replaced, "GORZHANI_RANGES_STACK");
 }

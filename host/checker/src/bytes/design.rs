@@ -44,19 +44,19 @@ pub enum StateKind {
     Input,
     /// A single transition, sent.
     OutputOnly,
-    /// Two transitions: one sent, one a tick back to itself.
+    /// Two transitions: one sent, one a tick.
     Delayed,
 }
 
 impl State {
-    /// The kind of this state, which is state `own` of its side, or none of the three.
-    pub fn kind(&self, own: usize) -> Option<StateKind> {
+    /// The kind of this state, or none of the three. Where a tick leads has no part in it.
+    pub fn kind(&self) -> Option<StateKind> {
         let sent = self.transitions.iter().filter(|t| t.event < 0).count();
-        let waits = |t: &Transition| t.event == 0 && usize::from(t.target) == own;
-        match (sent, self.transitions.len()) {
-            (0, _) => Some(StateKind::Input),
-            (1, 1) => Some(StateKind::OutputOnly),
-            (1, 2) if self.transitions.iter().any(waits) => Some(StateKind::Delayed),
+        let ticks = self.transitions.iter().filter(|t| t.event == 0).count();
+        match (sent, ticks, self.transitions.len()) {
+            (0, _, _) => Some(StateKind::Input),
+            (1, 0, 1) => Some(StateKind::OutputOnly),
+            (1, 1, 2) => Some(StateKind::Delayed),
             _ => None,
         }
     }
@@ -169,8 +169,7 @@ pub fn read_design(bytes: &[u8]) -> Result<Design, u8> {
     let sides: Option<Vec<Vec<State>>> =
         side_blocks.iter().map(|block| read_states(block)).collect();
     let mut sides = sides.ok_or(refusal::TRANSITIONS)?;
-    let of_a_kind =
-        |side: &Vec<State>| side.iter().enumerate().all(|(own, s)| s.kind(own).is_some());
+    let of_a_kind = |side: &Vec<State>| side.iter().all(|state| state.kind().is_some());
     demand(sides.iter().all(of_a_kind), refusal::STATE_KIND)?;
 
     let formulas = read_formulas(others[0]).ok_or(refusal::FORMULA)?;

@@ -10,7 +10,7 @@
 use std::array::from_fn;
 
 use checker::bytes::{
-    positions, read_converter_memory, Design, Formula, Link, Record, State, Transition, SIDES,
+    positions, read_converter_memory, seal, Design, Formula, Link, Record, State, Transition, SIDES,
 };
 use checker::joined::proposition;
 
@@ -106,6 +106,63 @@ pub fn four_rules(as_printed: bool) -> (Vec<Formula>, Vec<u8>) {
 pub fn ruled_handshake(as_printed: bool) -> Design {
     let (formulas, rules) = four_rules(as_printed);
     handshake(formulas, rules)
+}
+
+/// Where a state record of a side begins, in a design.
+pub fn state_at(side: usize, state: usize) -> usize {
+    512 * side + 4 + 20 * state
+}
+
+/// How many bytes the records of a block take, where these are the blocks of a design.
+pub fn record_bytes(design: &[u8], block: usize) -> usize {
+    let header = &design[512 * block..];
+    let each = match header[0] {
+        3 => 4,
+        4 => 1,
+        _ => 20,
+    };
+    each * usize::from(header[1])
+}
+
+/// The bytes of H with rules, in four blocks or in five, with the faults of some of the numbers 1
+/// to 8. Those of 5 and 8 are in this side's block.
+pub fn with_faults(mut bytes: Vec<u8>, side: usize, wrong: impl Fn(u8) -> bool) -> Vec<u8> {
+    let (formulas, rules) = (bytes.len() - 1_024, bytes.len() - 512);
+    let changes = [
+        (3, formulas, 4),
+        (4, formulas + 1, 65),
+        // A tick leads nowhere; s1 reads and sends; a rule names no formula.
+        (5, state_at(side, 0) + 5, 2),
+        (6, state_at(0, 1) + 4, 7),
+        (7, rules + 4, 64),
+        (8, 512 * side + 509, 1),
+    ];
+    for (number, at, value) in changes {
+        if wrong(number) {
+            bytes[at] = value;
+        }
+    }
+    seal(&mut bytes);
+    if wrong(2) {
+        bytes[rules + 511] ^= 255;
+    }
+    if wrong(1) {
+        bytes.push(0);
+    }
+    bytes
+}
+
+/// s0 sends 1 and goes to s1, or waits and goes to this state; s1 ticks. Its rule is that every
+/// path comes to s1, where 0 holds.
+pub fn wait_leading_to(target: u8) -> Design {
+    let side = vec![state(&[], &[(-1, 1), (0, target)]), state(&[0], &[(0, 1)])];
+    let formulas = vec![Formula::True, Formula::Proposition(0), Formula::Until(0, 1)];
+    design([side], formulas, vec![2])
+}
+
+/// The converter for the wait that leads to s1.
+pub fn leading_on() -> Vec<Record> {
+    vec![record([0], &[([1], 1), ([0], 1)]), record([1], &[([0], 1)])]
 }
 
 /// Two states ticking in turn beside one ticking state, each label again and again.

@@ -6,6 +6,7 @@
 
 use checker::bytes::{positions, read_blocks, read_design, write_blocks, Design, SIDES};
 use checker::generate::{any_design, design, ruled_design, Random, Shape};
+use checker::ranges::like;
 use gorzhani::{Refused, Runner, BLOCK, CELL, RECORD};
 
 const GUARD: usize = 64;
@@ -14,6 +15,8 @@ const GUARD: usize = 64;
 pub struct Lent {
     bytes: Vec<u8>,
     first: Vec<u8>,
+    /// How many guard bytes stand in front.
+    front: usize,
 }
 
 impl Lent {
@@ -21,7 +24,7 @@ impl Lent {
     pub fn holding(bytes: &[u8]) -> Lent {
         let guard = |from: u8| (0..GUARD as u8).map(move |at| at.wrapping_mul(7) ^ from);
         let bytes: Vec<u8> = guard(0xA5).chain(bytes.iter().copied()).chain(guard(0x5A)).collect();
-        Lent { first: bytes.clone(), bytes }
+        Lent { first: bytes.clone(), bytes, front: GUARD }
     }
 
     /// A buffer of this length with a pattern in it that has no zero.
@@ -30,24 +33,33 @@ impl Lent {
         Lent::holding(&pattern)
     }
 
+    /// The same buffer at an odd address: three guard bytes fewer stand in front.
+    pub fn odd(mut self) -> Lent {
+        self.bytes.drain(..3);
+        self.first.drain(..3);
+        self.front -= 3;
+        assert_eq!(self.part().as_ptr() as usize % 2, 1);
+        self
+    }
+
     /// The bytes between the guards.
     pub fn part(&self) -> &[u8] {
-        &self.bytes[GUARD..self.bytes.len() - GUARD]
+        &self.bytes[self.front..self.bytes.len() - GUARD]
     }
 
     /// The same to be written to.
     pub fn part_mut(&mut self) -> &mut [u8] {
         let end = self.bytes.len() - GUARD;
-        &mut self.bytes[GUARD..end]
+        &mut self.bytes[self.front..end]
     }
 
     /// Whether the guards and the bytes are as at first, but for `changed` at the front.
     pub fn holds(&self, changed: &[u8]) -> bool {
-        let (guard, rest) = self.bytes.split_at(GUARD);
+        let (guard, rest) = self.bytes.split_at(self.front);
         let (front, behind) = rest.split_at(changed.len());
-        guard == &self.first[..GUARD]
+        guard == &self.first[..self.front]
             && front == changed
-            && behind == &self.first[GUARD + changed.len()..]
+            && behind == &self.first[self.front + changed.len()..]
     }
 
     /// Whether nothing changed.
@@ -88,7 +100,7 @@ pub fn about(random: &mut Random, enough: usize) -> usize {
 
 /// How often each answer was given; 0 is any that isn't a refusal.
 #[derive(Default)]
-pub struct Answers([usize; 18]);
+pub struct Answers([usize; 24]);
 
 impl Answers {
     /// Counts an answer.
@@ -101,9 +113,15 @@ impl Answers {
         self.0.iter().sum()
     }
 
+    /// The numbers that came, and how often each.
+    pub fn counts(&self) -> Vec<(usize, usize)> {
+        let came = |number: usize| (number, self.0[number]);
+        (0..self.0.len()).map(came).filter(|&(_, times)| times > 0).collect()
+    }
+
     /// Asks that each of these numbers came so often, and no other came.
     pub fn are(&self, numbers: &[usize], least: usize) {
-        for number in 0..18 {
+        for number in 0..self.0.len() {
             let enough = if numbers.contains(&number) {
                 self.0[number] >= least
             } else {
@@ -127,17 +145,6 @@ pub fn header(name: &str) -> usize {
     });
     let value = value.unwrap_or_else(|| panic!("the header has no {name}"));
     value.parse().unwrap_or_else(|_| panic!("{name} = {value} is no number"))
-}
-
-/// How many bytes the records of a block take, where these are the blocks of a design.
-pub fn record_bytes(design: &[u8], block: usize) -> usize {
-    let header = &design[BLOCK * block..];
-    let each = match header[0] {
-        3 => 4,
-        4 => 1,
-        _ => 20,
-    };
-    each * usize::from(header[1])
 }
 
 /// The positions of the design that these bytes spell, at most `most`.
@@ -248,6 +255,28 @@ pub fn write_agrees(converter: &[u8], length: usize) -> u8 {
 /// Reads by both to a lent result of this length.
 pub fn read_agrees(file: &[u8], length: usize) -> u8 {
     copying_agrees((gorzhani::read, read_blocks), file, length, RECORD)
+}
+
+/// Replaces states by both, with a lent result of this length. What the library writes is held
+/// against the counted waits as well, which know nothing of how a table is made. What is lent to
+/// it stands at odd addresses.
+pub fn ranges_agrees(bytes: &[u8], list: &[u8], length: usize) -> u8 {
+    let (design, entries) = (Lent::holding(bytes).odd(), Lent::holding(list).odd());
+    let mut result = Lent::new(length).odd();
+    let answer = gorzhani::ranges(design.part(), entries.part(), result.part_mut());
+    let mut other_result = vec![0; length];
+    let other = checker::ranges(bytes, list, &mut other_result);
+    assert!(design.untouched() && entries.untouched());
+    let said = answer.map_err(|Refused(number)| number);
+    assert_eq!(said, other, "{list:?} {:?}", read_design(bytes));
+    if answer.is_ok() {
+        let new = &result.part()[..bytes.len()];
+        assert_eq!(like(bytes, list, new), Ok(()), "{list:?} {:?}", read_design(bytes));
+        assert!(result.holds(&other_result[..bytes.len()]), "{list:?} {:?}", read_design(bytes));
+    } else {
+        assert!(result.untouched(), "{list:?} {:?}", read_design(bytes));
+    }
+    number(answer)
 }
 
 /// A runner of the library as the second checker has it.

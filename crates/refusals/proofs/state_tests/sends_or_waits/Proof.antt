@@ -25,19 +25,9 @@ same-requires c κs = search needs
 
 returns-2 : tie.Need-returns-2
 returns-2 c =
-    let e = sym (sent-told (c .before .before .before .before)) ∙ not-false (c .before .before .before .before .is-sent .result) (c .before .before .before .if1 .left) in
-    let t = sym (tick-told (c .before)) ∙ not-true (c .before .same .result) (c .if2 .taken) in
-    sym (rw (e, t))
-
-cast-result : tie.Need-cast-result
-cast-result c = search needs
-
-returns-3 : tie.Need-returns-3
-returns-3 c =
-    let e = sym (sent-told (c .before .before .before .before .before)) ∙ not-false (c .before .before .before .before .before .is-sent .result) (c .before .before .before .before .if1 .left) in
-    let t = sym (tick-told (c .before .before)) ∙ not-false (c .before .before .same .result) (c .before .if2 .left) in
-    rw (e, t)
+    let e = sym (sent-told (c .before .before .before)) ∙ not-false (c .before .before .before .is-sent .result) (c .before .before .if1 .left) in
+    tick-told c ∙ sym (rw e)
 
 pub sends-or-waits-spec : {M : Type 1} → statement M
 sends-or-waits-spec =
-    tie.close (tie.spec is-sent-requires returns same-requires returns-2 cast-result returns-3)
+    tie.close (tie.spec is-sent-requires returns same-requires returns-2)
