@@ -6,8 +6,8 @@
  * What the caller owes, and C cannot state:
  * - each pointer is valid for its length and not null, also where the length is 0;
  * - the runner's pointer is aligned as struct gorzhani_runner is, to 2 bytes; every other pointer may stand anywhere;
- * - what is written (table, work, the blocks of a write, the converter of a read, the runner, the result of ranges) overlaps no other buffer of the call;
- *   buffers that are only read may overlap;
+ * - what is written (table, work, the blocks of a write and of rules, the converter of a read, the runner, the result of ranges) overlaps no other buffer of
+ *   the call; buffers that are only read may overlap;
  * - nobody else writes any of these buffers meanwhile, nor reads those that are written;
  * - the stack has room for the call (GORZHANI_SEARCH_STACK and the others below).
  * All else is proved: no call is undefined, whoever made the input, and each bad input gets its number.
@@ -42,7 +42,9 @@ enum {
     /* work: so many a position (search) or a record (judge) */
     GORZHANI_CELL_BYTES = 16,
     /* an entry in a list of ranges */
-    GORZHANI_ENTRY_BYTES = 4
+    GORZHANI_ENTRY_BYTES = 4,
+    /* the last two blocks of a design, which typed rules become */
+    GORZHANI_RULE_BLOCKS_BYTES = 1024
 };
 
 /* The most that there may be. A table and a work of the sizes given here are enough for every design that isn't refused with 9, and the work for every
@@ -66,7 +68,8 @@ enum {
     GORZHANI_WRITE_STACK = 1024,
     GORZHANI_READ_STACK = 1024,
     GORZHANI_TICK_STACK = 1024,
-    GORZHANI_RANGES_STACK = 1024
+    GORZHANI_RANGES_STACK = 1024,
+    GORZHANI_RULES_STACK = 24576
 };
 
 /* The numbers of the refusals; an answer is their negation. */
@@ -106,6 +109,12 @@ enum {
     GORZHANI_REFUSED_NO_CONVERTER = 16,
     /* the runner's record isn't there, a shown event is above 0 or below -63, or no transition fits */
     GORZHANI_REFUSED_TICK = 17,
+    /* a text isn't of the grammar of rules, has a line without a rule or no newline at its end, or has over 32 brackets open together */
+    GORZHANI_REFUSED_TEXT = 19,
+    /* a typed rule says "some path" (EX, EG, EF, E [ f U g ]), or has a temporal part under `!` or left of `->` */
+    GORZHANI_REFUSED_SOME_PATH = 20,
+    /* a text makes over 64 formulas or over 16 rules */
+    GORZHANI_REFUSED_TOO_MANY_FORMULAS = 21,
     /* a list of ranges is no multiple of 4 bytes, or an entry of it has a side over 2, a state that isn't there or isn't delayed with its tick to itself, a
      * count over 15 that isn't 255 as the greatest, a least count above the greatest, or a state named before */
     GORZHANI_REFUSED_RANGES = 22,
@@ -152,6 +161,24 @@ enum {
  * one at the least keeps its tick to itself. Count 0 keeps the state's number; the later counts stand behind the side's last state, in the order of the entries
  * and of the counts, with the same labels. An empty list copies the design. Answers 0, or refuses with 1 to 8, 22, 23, 12. */
 int32_t gorzhani_ranges(const uint8_t *design, size_t design_len, const uint8_t *entries, size_t entries_len, uint8_t *result, size_t result_len);
+
+/* The most that a text of rules may make and may have open, and the last of its names, which begin with p0. */
+enum {
+    GORZHANI_MOST_FORMULAS = 64,
+    GORZHANI_MOST_RULES = 16,
+    GORZHANI_MOST_BRACKETS = 32,
+    GORZHANI_LAST_NAME = 47
+};
+
+/* Reads rules as people type them: lend 1,024 bytes, which become the blocks of kinds 3 (formulas) and 4 (rules), as they stand at the end of a design. Each
+ * line is a rule in the manner of NuSMV and ends with a newline; an empty text has no rules. There are the names p0 to p47, TRUE and FALSE. `!`, AX, AG, AF
+ * and A [ f U g ] bind closest, then `&`, then `|`, both grouping to the left, then `->`, which groups to the right; round brackets hold any rule, and so do
+ * both places of A [ f U g ]. Up to 32 brackets may be open together, round and square ones. Spaces, and no other blanks, may stand around words and signs;
+ * letters and digits that touch are one word. `!` and the left of `->` are pushed down to the names. What is left is a formula for each name, constant and
+ * connective, none shared, the left operand's first and each behind its operands; AF makes two, true before its operand's and an until behind them, and `->` an
+ * or, where it is denied an and. The last formula of a line is its rule. Answers the number of rules, 0 to 16, or refuses with 19, 20, 21, 12. A text may be as
+ * long as one likes: the call takes at most 24,576 bytes of stack (GORZHANI_RULES_STACK), whatever is repeated in it. */
+int32_t gorzhani_rules(const uint8_t *text, size_t text_len, uint8_t *blocks, size_t blocks_len);
 
 #ifdef __cplusplus
 }

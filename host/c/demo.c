@@ -1,5 +1,6 @@
 /* From a design to ticks, over the C header alone: the handshake pair of the README's example with no rules, then three sides of one state each. Then rules
- * over labels, each of which belongs to one side, and the handshake pair with a wait that is known by range. Prints what each call answered. */
+ * over labels, each of which belongs to one side, the handshake pair with a wait that is known by range, and its rules as people type them. Prints what each
+ * call answered. */
 #include <stdio.h>
 #include <stdlib.h>
 #include <string.h>
@@ -95,9 +96,9 @@ static void handshake(void) {
     state(1, 1, 1 << 3, 1, t1);
 }
 
-/* Searches a converter for a design of at most 16 positions and judges it. */
+/* Searches a converter for a design of at most 1,024 positions and judges it. */
 static void search_and_judge(const char *what, const uint8_t *searched) {
-    static uint8_t table[16 * GORZHANI_RECORD_BYTES], work[16 * GORZHANI_CELL_BYTES];
+    static uint8_t table[1024 * GORZHANI_RECORD_BYTES], work[1024 * GORZHANI_CELL_BYTES];
     int32_t positions = gorzhani_positions(searched, design_len);
     int32_t records = gorzhani_search(searched, design_len, table, sizeof table, work, sizeof work);
     printf("%s: positions %d, search %s\n", what, (int)positions, found(records));
@@ -124,6 +125,41 @@ static void waits(void) {
            declined(gorzhani_ranges(design, design_len, too_many, sizeof too_many, patient, sizeof patient), GORZHANI_REFUSED_TOO_MANY_STATES));
     printf("short result: %s\n",
            declined(gorzhani_ranges(design, design_len, twice, sizeof twice, patient, design_len - 1), GORZHANI_REFUSED_SHORT_RESULT));
+}
+
+/* Reads typed rules to the end of the design. */
+static int32_t type(const char *text) {
+    return gorzhani_rules((const uint8_t *)text, strlen(text), design + design_len - GORZHANI_RULE_BLOCKS_BYTES, GORZHANI_RULE_BLOCKS_BYTES);
+}
+
+/* The handshake pair with the rule that `waits` has by its bytes, then with its four rules, then texts that are refused. */
+static void typed(void) {
+    static const char four_rules[] = "AG (p0 & p18 -> AX (p1 | !p19))\n"
+                                     "AG (p19 & p1 -> AX (p0 | !p18))\n"
+                                     "AG (p1 & p18 -> AX (p19 | !p0))\n"
+                                     "AG (p0 & p19 -> AX (!p1 | p18))\n";
+    static uint8_t by_bytes[GORZHANI_FIVE_BLOCK_DESIGN_BYTES];
+    char too_many[3 * (GORZHANI_MOST_RULES + 1) + 1] = "";
+    memcpy(by_bytes, design, design_len);
+    memset(design + design_len - GORZHANI_RULE_BLOCKS_BYTES, 255, GORZHANI_RULE_BLOCKS_BYTES);
+    int32_t rules = type("AF p1\n");
+    printf("typed: rules %d, %s\n", (int)rules, memcmp(by_bytes, design, design_len) == 0 ? "the same design" : "another design");
+
+    rules = type(four_rules);
+    const uint8_t *formulas = design + design_len - GORZHANI_RULE_BLOCKS_BYTES, *last = formulas + GORZHANI_BLOCK_BYTES + 4 + rules - 1;
+    printf("typed: rules %d, formulas %d, the last rule is formula %d, of kind %d\n", (int)rules, formulas[1], *last, formulas[4 + 4 * *last]);
+    search_and_judge("four typed rules", design);
+
+    for (int rule = 0; rule <= GORZHANI_MOST_RULES; rule++) strcat(too_many, "p0\n");
+    printf("a word that isn't one: %s\n", declined(type("AXp0\n"), GORZHANI_REFUSED_TEXT));
+    printf("no newline: %s\n", declined(type("p0"), GORZHANI_REFUSED_TEXT));
+    printf("some path: %s\n", declined(type("EX p0\n"), GORZHANI_REFUSED_SOME_PATH));
+    printf("a temporal part denied: %s\n", declined(type("AX p0 -> p1\n"), GORZHANI_REFUSED_SOME_PATH));
+    printf("too many rules: %s\n", declined(type(too_many), GORZHANI_REFUSED_TOO_MANY_FORMULAS));
+    printf("short blocks: %s\n",
+           declined(gorzhani_rules((const uint8_t *)"", 0, by_bytes, GORZHANI_RULE_BLOCKS_BYTES - 1), GORZHANI_REFUSED_SHORT_RESULT));
+    printf("refusals left the rules %s\n", design[design_len - GORZHANI_BLOCK_BYTES + 1] == 4 ? "as they were" : "changed");
+    printf("no rules: %d\n", (int)type(""));
 }
 
 /* A kernel that ticks or sends 1, a host that reads 1 or 2, and a third side that ticks or sends 3: one position, and a transition for each of four choices. */
@@ -194,5 +230,6 @@ int main(void) {
     ask(3, 3 * 16);
 
     waits();
+    typed();
     return 0;
 }

@@ -1,14 +1,17 @@
 -- What a number means to a caller in C, for every input and from the call's promise alone (`Calls`): when the judge's is 0, -14 or -15; when the search's is -16,
 -- and what stands in the table where it is a count; when the tick's is 0; when the writer's, the block reader's and that of `gorzhani_positions` are counts; when that of
--- `gorzhani_ranges` is 0, and what then stands at the front of the result; and how much a search is lent that no refusal comes before its decision.
+-- `gorzhani_ranges` is 0, and what then stands at the front of the result; when that of `gorzhani_rules` is a count, and what its blocks then say; and how much a search is lent that no refusal comes before its decision.
 use mathlib.Core.Path.{_≡_, refl, sym, ap, _∙_}
-use mathlib.Core.List.{List}
+use mathlib.Core.Bool.{false}
+use mathlib.Core.List.{List, _++_}
 use mathlib.Core.Logic.{_↔_, Iff·trans, _⊎_, inl, inr}
 use Prim.Native.Nat.{ℕ, _*_, _≤_, _<_}
 use native.Mathlib.Omega.{arith}
 use borrow.Author.Tests.{le-leb}
 use lib.IntN.{ℤ, pos}
-use lib.ListN.{length, take}
+use lib.ListN.{length, take, getD}
+use Rattle.model.specs.Actl.{System, Holds}
+use Rattle.model.specs.Formulas.{formula}
 use Rattle.model.specs.Events.{Event}
 use Rattle.model.specs.Converters.{Matched}
 use Rattle.model.specs.Designs.{Works, NoneWorks}
@@ -17,7 +20,7 @@ use Rattle.model.specs.Ranges.{Takes, TakesUnder, entered}
 use Rattle.model.proofs.Judged.{FailsRule}
 use Rattle.files.specs.declared.answers.Written.the-variants as written
 use Rattle.files.specs.declared.answers.Read.the-variants as read
-use Rattle.layout.specs.Sizes.{side-count, record-bytes, most-positions, cell-bytes}
+use Rattle.layout.specs.Sizes.{side-count, least-sides, block-bytes, record-bytes, most-positions, cell-bytes}
 use Rattle.layout.specs.Bytes.{part, put}
 use Rattle.layout.specs.Designs.{design, side}
 use Rattle.layout.specs.Converters.{records, converter}
@@ -39,8 +42,15 @@ use Rattle.ranges.specs.declared.Answer.the-variants as replaced
 use Rattle.ranges.specs.Entries.{side-ranges}
 use Rattle.ranges.specs.Ranges.{ranges-refusal, ranged-design, Ranges}
 use Rattle.ranges.proofs.Promise.{written as written-there, result-passes, result-runs}
-use Rattle.gorzhani.specs.Codes.{refusal-code, search-code, write-code, read-code, ranges-code}
-use Rattle.gorzhani.specs.Calls.{positions-refusal, positions-number, SearchCall, JudgeCall, WriteCall, ReadCall, TickCall, RangesCall}
+use Rattle.typed.specs.Grammar.{constant, Lines}
+use Rattle.typed.specs.Meaning.{Means}
+use Rattle.typed.specs.Records.{rule-blocks}
+use Rattle.typed.proofs.Accepted.{SidesPass}
+use Rattle.rules.specs.declared.Answer.the-variants as ruled
+use Rattle.rules.specs.Rules.{rules-of, formulas-for, rules-refusal, Ruling}
+use Rattle.rules.proofs.Promise.{of-the-grammar, line-holds, design-accepted}
+use Rattle.gorzhani.specs.Codes.{refusal-code, search-code, write-code, read-code, ranges-code, rules-code}
+use Rattle.gorzhani.specs.Calls.{positions-refusal, positions-number, SearchCall, JudgeCall, WriteCall, ReadCall, TickCall, RangesCall, RulesCall}
 use Rattle.gorzhani.proofs.Apart.{counts-exactly, refuses-exactly, search-finds, search-declines, judge-accepts, judge-declines, tick-does, tick-declines}
 use Rattle.gorzhani.proofs.Positions.{taken, some-position, number-taken, number-refused}
 
@@ -167,6 +177,57 @@ module _ {ds es lent lent′ : List ℕ} {r : ℤ} (R : RangesCall ds es lent r 
     pub ranges-runs : (i : ℕ) → i < side-count → (evs : List Event) (ws : List ℕ)
         → Takes (side (design (part lent′ 0 (length ds))) i) 0 evs ws ↔ TakesUnder (side (design ds) i) (side-ranges es i) (entered 0) evs ws
     ranges-runs = result-runs ds es lent lent′ replaces
+
+-- ---- typed rules
+module _ {text lent lent′ : List ℕ} {r : ℤ} (R : RulesCall text lent r lent′) where
+  abbrev rules-refused-by : ℕ
+  rules-refused-by = rules-refusal (R .reading) (length lent)
+
+  abbrev all-rules : ℕ
+  all-rules = length (rules-of (R .reading))
+
+  is-count : rules-refused-by ≡ 0 → r ≡ pos all-rules
+  is-count z = R .number ∙ ap rules-code (where-none rules-refused-by (ruled.Rules all-rules) (ruled.Refused rules-refused-by) z)
+
+  is-declined : (rules-refused-by ≡ 0 → ⊥) → r ≡ refusal-code rules-refused-by
+  is-declined n = R .number ∙ ap rules-code (where-some rules-refused-by (ruled.Rules all-rules) (ruled.Refused rules-refused-by) n)
+
+  -- a count: nothing is refused, and so many rules are the text's
+  pub rules-counts : (n : ℕ) → (r ≡ pos n) ↔ ((rules-refusal (R .reading) (length lent) ≡ 0) × (n ≡ length (rules-of (R .reading))))
+  rules-counts = counts-exactly r rules-refused-by all-rules is-count is-declined
+
+  -- -k: it is refused with k, and all is as it was
+  pub rules-refused : (k : ℕ) → 0 < k → (r ≡ refusal-code k) ↔ ((rules-refusal (R .reading) (length lent) ≡ k) × (lent′ ≡ lent))
+  rules-refused k h =
+      let is = refuses-exactly r rules-refused-by all-rules is-count is-declined k h in
+      (λ e. (is .0 e, R .leaves-blocks ∙ where-some rules-refused-by (put lent 0 (rule-blocks (formulas-for (rules-of (R .reading))))) lent (λ z. omega (arith, is .0 e))), λ p. is .1 (p .0))
+
+  module _ (n : ℕ) (e : r ≡ pos n) where
+    -- what the call itself promises
+    rules-read : Ruling text lent (ruled.Rules n) lent′
+    rules-read =
+        let w = rules-counts n .0 e in
+        record {
+          reading = R .reading;
+          answers = ap ruled.Rules (w .1) ∙ sym (where-none rules-refused-by (ruled.Rules all-rules) (ruled.Refused rules-refused-by) (w .0));
+          leaves = R .leaves-blocks;
+        }
+
+    -- then the text is of the grammar, and reads as these rules
+    pub rules-of-the-text : Lines text (rules-of (R .reading)) × (n ≡ length (rules-of (R .reading)))
+    unfolding rules-read
+    rules-of-the-text = of-the-grammar text lent n lent′ rules-read
+
+    -- of a design made of sides, two or three, and the blocks, rule i holds exactly where line i does, and it isn't refused where its sides are not
+    pub rules-hold : (ss : List ℕ) (sides : ℕ) → length ss ≡ block-bytes * sides → (i : ℕ) → i < n → (M : System) (s : M .State)
+        → Holds M (formula (design (ss ++ part lent′ 0 (2 * block-bytes)) .forms) (getD (design (ss ++ part lent′ 0 (2 * block-bytes)) .rules) i 0)) s
+        ↔ Means M (getD (rules-of (R .reading)) i (constant false)) s
+    unfolding rules-read
+    rules-hold = line-holds text lent n lent′ rules-read
+
+    pub rules-accepted : (ss : List ℕ) (sides : ℕ) → length ss ≡ block-bytes * sides → least-sides ≤ sides → sides ≤ side-count → SidesPass ss sides
+        → design-refusal (ss ++ part lent′ 0 (2 * block-bytes)) ≡ 0
+    rules-accepted = design-accepted text lent n lent′ rules-read
 
 -- ---- the positions
 module _ (ds : List ℕ) where

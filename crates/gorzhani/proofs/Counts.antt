@@ -1,4 +1,4 @@
--- A count that the search, the writer or the block reader answers is no higher than the most records that a converter has.
+-- A count that the search, the writer or the block reader answers is no higher than the most records that a converter has, and one of rules no higher than the most rules.
 use mathlib.Core.Path.{_≡_, subst}
 use mathlib.Core.List.{List}
 use Prim.Native.Nat.{ℕ, _*_, _≤_}
@@ -8,7 +8,7 @@ use Rattle.files.specs.declared.answers.Written.{Written}
 use Rattle.files.specs.declared.answers.Written.the-variants.{Blocks}
 use Rattle.files.specs.declared.answers.Read.{Read}
 use Rattle.files.specs.declared.answers.Read.the-variants.{Records}
-use Rattle.layout.specs.Sizes.{record-bytes, most-records}
+use Rattle.layout.specs.Sizes.{record-bytes, most-records, most-rules}
 use Rattle.layout.specs.Converters.{records}
 use Rattle.files.specs.Files.{file-count, blocks-for}
 use Rattle.files.specs.Answers.{Writes, Reads}
@@ -20,6 +20,10 @@ use Rattle.search.specs.declared.Outcome.{Outcome}
 use Rattle.search.specs.declared.Outcome.the-variants.{Found}
 use Rattle.search.specs.Search.{Searches}
 use Rattle.search.proofs.Answers.{found-in}
+use Rattle.rules.specs.declared.Answer.{Answer as Ruled}
+use Rattle.rules.specs.declared.Answer.the-variants.{Rules}
+use Rattle.rules.specs.Rules.{Ruling}
+use Rattle.rules.proofs.Promise.{few-lines}
 
 module _ {n : ℕ} where
   pub search-count : {ds table work table′ work′ : List ℕ} {a : Outcome} → Searches ds table work a table′ work′ → a ≡ Found n → n ≤ most-records
@@ -40,3 +44,6 @@ module _ {n : ℕ} where
       let z = read-passed bs converter converter′ n r in
       let m : n ≡ file-count bs = cc (read-does bs converter converter′ (Records n) r z .0) in
       omega (arith, read-accepted bs (length converter) z .0 .pass .few-records)
+
+  pub rules-count : {text blocks blocks′ : List ℕ} {a : Ruled} → Ruling text blocks a blocks′ → a ≡ Rules n → n ≤ most-rules
+  rules-count {text} {blocks} {blocks′} p e = few-lines text blocks n blocks′ (subst (λ (a : Ruled). Ruling text blocks a blocks′) e p)

@@ -16,8 +16,10 @@ use Rattle.runner.specs.declared.Answer.{Answer}
 use Rattle.runner.specs.Ticks.{Ticks}
 use Rattle.ranges.specs.declared.Answer.{Answer as Replaced}
 use Rattle.ranges.specs.Ranges.{Ranges}
-use Rattle.gorzhani.specs.Codes.{search-code, judge-code, write-code, read-code, tick-code, ranges-code}
-use Rattle.gorzhani.specs.Calls.{SearchCall, JudgeCall, WriteCall, ReadCall, TickCall, RangesCall}
+use Rattle.rules.specs.declared.Answer.{Answer as Ruled}
+use Rattle.rules.specs.Rules.{Ruling}
+use Rattle.gorzhani.specs.Codes.{search-code, judge-code, write-code, read-code, tick-code, ranges-code, rules-code}
+use Rattle.gorzhani.specs.Calls.{SearchCall, JudgeCall, WriteCall, ReadCall, TickCall, RangesCall, RulesCall}
 
 module _ {r : ℤ} where
   pub search-promised : {ds table work table′ work′ : List ℕ} {a : Outcome} → Searches ds table work a table′ work′ → r ≡ search-code a → SearchCall ds table work r table′ work′
@@ -43,3 +45,6 @@ module _ {r : ℤ} where
 
   pub ranges-promised : {ds es result result′ : List ℕ} {a : Replaced} → Ranges ds es result a result′ → r ≡ ranges-code a → RangesCall ds es result r result′
   ranges-promised p e = record { number = e ∙ ap ranges-code (p .answers); leaves-result = p .leaves }
+
+  pub rules-promised : {text blocks blocks′ : List ℕ} {a : Ruled} → Ruling text blocks a blocks′ → r ≡ rules-code a → RulesCall text blocks r blocks′
+  rules-promised p e = record { reading = p .reading; number = e ∙ ap rules-code (p .answers); leaves-blocks = p .leaves }

@@ -20,7 +20,9 @@ use Rattle.judge.specs.Judge.{judge-answer, judge-work}
 use Rattle.runner.specs.declared.Runner.{Runner}
 use Rattle.runner.specs.Ticks.{ticked}
 use Rattle.ranges.specs.Ranges.{ranges-refusal, ranges-answer, ranged-design}
-use Rattle.gorzhani.specs.Codes.{refusal-code, search-code, judge-code, write-code, read-code, tick-code, ranges-code}
+use Rattle.typed.specs.Records.{rule-blocks}
+use Rattle.rules.specs.Rules.{Reading, rules-of, formulas-for, rules-refusal, rules-answer}
+use Rattle.gorzhani.specs.Codes.{refusal-code, search-code, judge-code, write-code, read-code, tick-code, ranges-code, rules-code}
 
 -- ---- gorzhani_positions: the positions of a design ds, or the first of 1 to 9 that refuses it
 unfoldable pub positions-refusal : List ℕ → ℕ
@@ -67,3 +69,11 @@ pub record RangesCall (ds es result : List ℕ) (r : ℤ) (result′ : List ℕ)
   -- 0 for "done", or the refusal
   pub number : r ≡ ranges-code (ranges-answer ds es (length result))
   pub leaves-result : result′ ≡ left-by (ranges-refusal ds es (length result)) result (ranged-design ds es)
+
+-- ---- gorzhani_rules: a text; the bytes lent for the two blocks before, and after
+pub record RulesCall (text blocks : List ℕ) (r : ℤ) (blocks′ : List ℕ) : Type 0 where
+  -- the rules that the text reads as, or none: there is no choice
+  pub reading : Reading text
+  -- the count of rules, or the refusal
+  pub number : r ≡ rules-code (rules-answer reading (length blocks))
+  pub leaves-blocks : blocks′ ≡ left-by (rules-refusal reading (length blocks)) blocks (rule-blocks (formulas-for (rules-of reading)))

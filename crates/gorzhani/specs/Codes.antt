@@ -13,6 +13,8 @@ use Rattle.runner.specs.declared.Answer.{Answer}
 use Rattle.runner.specs.declared.Answer.the-variants as tick
 use Rattle.ranges.specs.declared.Answer.{Answer as Replaced}
 use Rattle.ranges.specs.declared.Answer.the-variants as replaced
+use Rattle.rules.specs.declared.Answer.{Answer as Ruled}
+use Rattle.rules.specs.declared.Answer.the-variants as ruled
 
 abbrev pub refusal-code : ℕ → ℤ
 refusal-code k = negℤ (pos k)
@@ -40,3 +42,7 @@ tick-code (tick.Refused k) = refusal-code k
 abbrev pub ranges-code : Replaced → ℤ
 ranges-code replaced.Done = pos 0
 ranges-code (replaced.Refused k) = refusal-code k
+
+abbrev pub rules-code : Ruled → ℤ
+rules-code (ruled.Rules n) = pos n
+rules-code (ruled.Refused k) = refusal-code k

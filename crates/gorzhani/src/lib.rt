@@ -6,7 +6,7 @@ ghost use Prim.Native.Nat.{_≤_};
 ghost use lib.IntN.{pos};
 ghost use Rattle.layout.specs.Sizes.{most-records};
 ghost use Rattle.gorzhani.specs.Codes.{refusal-code, tick-code};
-ghost use Rattle.gorzhani.specs.Calls.{positions-refusal, positions-number, SearchCall, JudgeCall, WriteCall, ReadCall, TickCall, RangesCall};
+ghost use Rattle.gorzhani.specs.Calls.{positions-refusal, positions-number, SearchCall, JudgeCall, WriteCall, ReadCall, TickCall, RangesCall, RulesCall};
 use files::answers::Read;
 use files::answers::Written;
 use files::reader;
@@ -141,5 +141,17 @@ pub extern "C" fn gorzhani_ranges(design: &[u8], entries: &[u8], result: &mut [u
     match answer {
         ranges::Answer::Done => 0,
         ranges::Answer::Refused(k) => refused(k),
+    }
+}
+
+// Rules as people type them: the count of rules, whose blocks are written.
+#[no_mangle]
+pub extern "C" fn gorzhani_rules(text: &[u8], blocks: &mut [u8]) -> i32
+    ensures { λ r. ⌜ RulesCall (now (text .entry)) (now (blocks .entry)) r (now (blocks .exit)) ⌝ }
+{
+    let answer = rules::rules(text, blocks);
+    match answer {
+        rules::Answer::Rules(n) => counted(n),
+        rules::Answer::Refused(k) => refused(k),
     }
 }

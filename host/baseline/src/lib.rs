@@ -10,6 +10,7 @@
 //! - [`same`]: the proved search's own computation, over the lent work.
 //! - [`tick`](mod@tick): one tick.
 //! - [`ranges`](mod@ranges): delayed states replaced by states that count their waits.
+//! - [`rules`](mod@rules): typed rules, read in one pass.
 
 #![forbid(unsafe_code)]
 
@@ -19,6 +20,7 @@ mod joint;
 mod joints;
 pub mod judge;
 pub mod ranges;
+pub mod rules;
 pub mod same;
 pub mod search;
 pub mod tick;
@@ -26,6 +28,7 @@ pub mod tick;
 pub use converter::{read, write};
 pub use judge::judge;
 pub use ranges::ranges;
+pub use rules::rules;
 pub use search::search;
 pub use tick::{tick, Runner};
 

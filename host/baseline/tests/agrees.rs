@@ -1,6 +1,9 @@
 //! The baseline against the second checker: the same answers and the same
 //! bytes; what the search finds is judged well by the other.
 
+#[path = "../../checker/tests/typed/mod.rs"]
+mod typed;
+
 use std::array::from_fn;
 
 use checker::bytes::{
@@ -8,10 +11,12 @@ use checker::bytes::{
     State, Transition, BLOCK_BYTES, BLOCK_RECORDS, PROPOSITIONS, RECORD_BYTES, SIDES, SIDE_LABELS,
 };
 use checker::generate::{
-    any_bytes, any_converter, any_design, any_ranges, block_file, damage, damaged_converter,
-    design, flawed_list, loose_converter, ruled_design, script, waiting_design, Random, Shape,
+    any_bytes, any_converter, any_design, any_ranges, any_text, block_file, damage, damage_text,
+    damaged_converter, design, every_name, flawed_list, loose_converter, ruled_design, script,
+    sound_text, text_at_limits, token_text, waiting_design, Random, Shape,
 };
 use checker::ranges::list_bytes;
+use typed::{at_the_limits, long_texts, orders, refused_with_19, refused_with_20, rows};
 
 /// Bytes that aren't zero.
 fn pattern(length: usize) -> Vec<u8> {
@@ -274,4 +279,57 @@ fn ranges() {
         assert!(answers[number] > 20, "{number}: {answers:?}");
     }
     assert!(answers[0] > 10_000, "{answers:?}");
+}
+
+/// Reads a text by both. The answer, 0 where it is read.
+fn rules_agree(text: &[u8], length: usize) -> u8 {
+    let (mut blocks, mut other_blocks) = (pattern(length), pattern(length));
+    let answer = baseline::rules(text, &mut blocks);
+    let shown = String::from_utf8_lossy(&text[..text.len().min(300)]);
+    assert_eq!(answer, checker::rules(text, &mut other_blocks), "{shown:?}");
+    assert!(blocks == other_blocks, "{shown:?}");
+    answer.err().unwrap_or(0)
+}
+
+#[test]
+fn rules() {
+    let mut random = Random::new(207);
+    let mut answers = [0; 24];
+    for round in 0..60_000 {
+        let text = match round % 6 {
+            0 => sound_text(&mut random, &every_name(), 16, 64).bytes,
+            1 => any_text(&mut random).bytes,
+            2 => text_at_limits(&mut random).bytes,
+            3 => token_text(&mut random),
+            _ => {
+                let mut text = any_text(&mut random).bytes;
+                damage_text(&mut random, &mut text);
+                text
+            }
+        };
+        let length = about(&mut random, 1_024);
+        answers[usize::from(rules_agree(&text, length))] += 1;
+    }
+    for number in [0, 12, 19, 20, 21] {
+        assert!(answers[number] > 1_000, "{number}: {answers:?}");
+    }
+}
+
+#[test]
+fn rules_that_are_written_out() {
+    for row in rows() {
+        assert_eq!(rules_agree(row.text.as_bytes(), 1_024), 0, "{}", row.text);
+    }
+    for (number, texts) in [(19, refused_with_19()), (20, refused_with_20())] {
+        texts.iter().for_each(|text| assert_eq!(rules_agree(text, 1_024), number));
+    }
+    for (text, number, _) in at_the_limits() {
+        assert_eq!(rules_agree(text.as_bytes(), 1_030), number);
+    }
+    for (name, text, number, _) in long_texts() {
+        assert_eq!(rules_agree(text.as_bytes(), 1_024), number, "{name}");
+    }
+    for (text, length, expected) in orders() {
+        assert_eq!(rules_agree(text.as_bytes(), length), expected.unwrap_or(0), "{text}");
+    }
 }

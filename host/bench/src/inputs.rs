@@ -14,6 +14,16 @@ pub struct Judged {
     pub converter: Vec<u8>,
 }
 
+/// Texts of rules of one sort, in growing sizes, and how often each is read.
+pub struct Typed {
+    /// What they are like.
+    pub job: &'static str,
+    /// How often each is read.
+    pub calls: usize,
+    /// The texts.
+    pub texts: Vec<Vec<u8>>,
+}
+
 /// A design and a list of ranges for it, as bytes.
 pub struct Ranged {
     /// The design.
@@ -409,4 +419,42 @@ fn ranged(states: usize) -> Ranged {
     let entries = (0..SIDES).flat_map(|side| (0..states).map(move |own| (side, own)));
     let ranges: Vec<Range> = entries.map(|(side, own)| entry(side, own)).collect();
     Ranged { design: design.to_bytes(), list: list_bytes(&ranges) }
+}
+
+/// Texts of rules to read, by what they are like, in growing sizes, of which `sizes` are made. Of the
+/// long ones, those of `!` and of spaces are read; the others make over 64 formulas, which is told
+/// once the whole text was read.
+pub fn typed(sizes: usize) -> Vec<Typed> {
+    let of_pieces = |job, piece: &str, end: &str| {
+        let long = |length: usize| format!("{}{end}\n", piece.repeat(length / piece.len()));
+        let lengths = [1 << 12, 1 << 16, 1 << 20];
+        let texts = lengths.into_iter().take(sizes).map(|length| long(length).into_bytes());
+        Typed { job, calls: 1, texts: texts.collect() }
+    };
+    let short = [four_rules(), sixteen_rules()].into_iter().take(sizes).collect();
+    vec![
+        Typed { job: "1,000 times rules, four and sixteen of them", calls: 1_000, texts: short },
+        of_pieces("rules, a line of !", "!", "p0"),
+        of_pieces("rules, a line of spaces and a name", " ", "p0"),
+        of_pieces("rules, a line of AX", "AX ", "p0"),
+        of_pieces("rules, a chain of &", "p0&", "p0"),
+        of_pieces("rules, a chain of ->", "p0->", "p0"),
+        of_pieces("rules, a chain of rules in brackets", "(AG (p0 | !p47)) & ", "p0"),
+        of_pieces("rules, lines of a name", "p0\n", "p0"),
+    ]
+}
+
+/// The rules of the handshake pair.
+fn four_rules() -> Vec<u8> {
+    b"AG (p0 & p18 -> AX (p1 | !p19))\n\
+      AG (p19 & p1 -> AX (p0 | !p18))\n\
+      AG (p1 & p18 -> AX (p19 | !p0))\n\
+      AG (p0 & p19 -> AX (!p1 | p18))\n"
+        .to_vec()
+}
+
+/// As many rules as a text may have, which make as many formulas as it may: four each.
+fn sixteen_rules() -> Vec<u8> {
+    let rule = |number: usize| format!("AG (p{number} -> p{})\n", 47 - 2 * number);
+    (0..16).flat_map(|number| rule(number).into_bytes()).collect()
 }

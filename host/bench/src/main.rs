@@ -16,8 +16,8 @@ use std::hint::black_box;
 use std::time::{Duration, Instant};
 
 use checker::bytes::{positions, Design};
-use gorzhani::{Refused, BLOCK, BLOCK_RECORDS, CELL, ENTRY, RECORD};
-use inputs::{Judged, Ranged};
+use gorzhani::{Refused, BLOCK, BLOCK_RECORDS, CELL, ENTRY, RECORD, RULE_BLOCKS};
+use inputs::{Judged, Ranged, Typed};
 
 /// A larger size is left out once a call took this long.
 const TOO_LONG: Duration = Duration::from_secs(2);
@@ -93,6 +93,11 @@ fn main() -> Result<(), String> {
         (entries as u128, move || ranges(extent, made))
     });
     table("1,000 times ranges", "entries", rows);
+    for Typed { job, calls, texts } in inputs::typed(extent.sizes) {
+        let rows =
+            texts.iter().map(|text| (text.len() as u128, move || rules(extent, text, calls)));
+        table(job, "bytes", rows);
+    }
     Ok(())
 }
 
@@ -138,11 +143,11 @@ fn over(time: Duration, other: Duration) -> f64 {
     time.as_secs_f64() / other.as_secs_f64()
 }
 
-/// A number below a million with a comma before its last three digits.
+/// A number with a comma before each group of three digits.
 fn grouped(number: u128) -> String {
     match (number / 1_000, number % 1_000) {
         (0, low) => low.to_string(),
-        (high, low) => format!("{high},{low:03}"),
+        (high, low) => format!("{},{low:03}", grouped(high)),
     }
 }
 
@@ -318,5 +323,27 @@ fn ranges(extent: Extent, made: &Ranged) -> [Duration; 2] {
         },
     ]);
     assert!(result == other_result);
+    times
+}
+
+fn rules(extent: Extent, text: &[u8], calls: usize) -> [Duration; 2] {
+    let (mut blocks, mut other_blocks) = ([0; RULE_BLOCKS], [0; RULE_BLOCKS]);
+    let expected = gorzhani::rules(text, &mut blocks).map_err(number);
+    assert_eq!(expected, baseline::rules(text, &mut other_blocks), "the answers agree");
+    let times = extent.shortest([
+        &mut || {
+            for _ in 0..calls {
+                let answer = gorzhani::rules(text, &mut blocks).map_err(number);
+                assert_eq!(black_box(answer), expected);
+            }
+        },
+        &mut || {
+            for _ in 0..calls {
+                let answer = baseline::rules(text, &mut other_blocks);
+                assert_eq!(black_box(answer), expected);
+            }
+        },
+    ]);
+    assert!(blocks == other_blocks);
     times
 }

@@ -1,8 +1,10 @@
-//! Seeded random designs, converters, converter files and lists of ranges, sound and damaged.
+//! Seeded random designs, converters, converter files, lists of ranges and texts of rules, sound
+//! and damaged.
 //!
 //! The same seed always gives the same things.
 
 mod ranges;
+mod rules;
 
 use std::array::from_fn;
 use std::collections::BTreeSet;
@@ -17,6 +19,10 @@ use crate::judge::model;
 use crate::tick::{tick, PlainSides, Runner};
 
 pub use ranges::{any_ranges, flawed_list, waiting_design, with_waits, Flaw};
+pub use rules::{
+    any_text, damage_text, every_name, sound_text, text_at_limits, token_text, typed_line,
+    typed_rule, AtLimits, Paths, Text, TextDamage, TEXT_DAMAGES,
+};
 
 /// A xorshift generator.
 #[derive(Clone, Debug)]

@@ -16,8 +16,10 @@
 //! - [`tick`](mod@tick): the running converter, the plain sides, the claim about runs.
 //! - [`ranges`](mod@ranges): delayed states replaced by states that count their waits, and
 //!   any such table against the old one with counted waits.
-//! - [`generate`]: seeded random designs, converters, files and lists of ranges, sound and
-//!   damaged.
+//! - [`rules`](mod@rules): rules as people type them, read in two ways, and what they mean as
+//!   they were typed.
+//! - [`generate`]: seeded random designs, converters, files, lists of ranges and texts, sound
+//!   and damaged.
 
 #![forbid(unsafe_code)]
 
@@ -30,10 +32,12 @@ pub mod judge;
 pub mod none;
 pub mod ranges;
 pub mod refusal;
+pub mod rules;
 pub mod search;
 pub mod tick;
 
 pub use judge::judge;
 pub use ranges::ranges;
+pub use rules::rules;
 pub use search::search;
 pub use tick::tick;

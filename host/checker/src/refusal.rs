@@ -34,6 +34,12 @@ pub const RULE: u8 = 15;
 pub const NONE: u8 = 16;
 /// The tick has no transition to take.
 pub const TICK: u8 = 17;
+/// A text isn't of the grammar of rules, or is too deep.
+pub const TEXT: u8 = 19;
+/// A typed rule says "some path", or denies what is temporal.
+pub const SOME_PATH: u8 = 20;
+/// A text makes too many formulas or too many rules.
+pub const TOO_MANY_FORMULAS: u8 = 21;
 /// A list of ranges is wrong.
 pub const RANGES: u8 = 22;
 /// A side has too many states after replacement.

@@ -2,7 +2,6 @@
 
 use crate::example::Event::{Read, Send, Tick};
 use crate::example::{state, Event, Example, Side, State, Verdict};
-use crate::rule::{af, ag, ax, p, until, Rule};
 
 /// All examples.
 pub fn examples() -> Vec<Example> {
@@ -27,7 +26,7 @@ pub fn examples() -> Vec<Example> {
 fn handshake_with(
     name: &'static str,
     title: &'static str,
-    fourth: (&'static str, Rule),
+    fourth: (&'static str, &'static str),
     verdict: Verdict,
     why: &'static str,
 ) -> Example {
@@ -58,15 +57,15 @@ the grant at the very next tick. The converter has to hold the request back unti
         rules: vec![
             (
                 "Serial doesn't read the request before or without its being sent.",
-                ag((p("idle1") & p("idle2")).implies(ax(p("rout") | !p("rin")))),
+                "AG (p0 & p18 -> AX (p1 | !p19))",
             ),
             (
                 "Serial doesn't read the grant before or without its being sent.",
-                ag((p("rin") & p("rout")).implies(ax(p("idle1") | !p("idle2")))),
+                "AG (p19 & p1 -> AX (p0 | !p18))",
             ),
             (
                 "A request that was sent is read before, or when, the grant is sent.",
-                ag((p("rout") & p("idle2")).implies(ax(p("rin") | !p("idle1")))),
+                "AG (p1 & p18 -> AX (p19 | !p0))",
             ),
             fourth,
         ],
@@ -81,7 +80,7 @@ fn handshake() -> Example {
         "Handshake and serial (5)",
         (
             "A grant that was sent is read before, or when, the next request is sent.",
-            ag((p("idle1") & p("rin")).implies(ax(!p("rout") | p("idle2")))),
+            "AG (p0 & p19 -> AX (!p1 | p18))",
         ),
         Verdict::Converter,
         "\
@@ -96,7 +95,7 @@ fn handshake_as_printed() -> Example {
         "Handshake and serial, the rules as printed (5)",
         (
             "As printed: after the grant was sent, no next request is sent while serial moves to its start.",
-            ag((p("idle1") & p("rin")).implies(ax(!p("rout") | !p("idle2")))),
+            "AG (p0 & p19 -> AX (!p1 | !p18))",
         ),
         Verdict::None,
         "\
@@ -152,12 +151,11 @@ at any time; a drag that waits shall get the lock before any thumbnail job, and 
         rules: vec![
             (
                 "The host drags only while the drag holds the lock; and a drag that waits while no thumbnail job runs gets it before any thumbnail job.",
-                ag(p("drags").implies(p("held"))
-                    & (p("waits") & !p("thumb")).implies(until(!p("thumb"), p("drags")))),
+                "AG ((p19 -> p0) & (p18 & !p1 -> A [ !p1 U p19 ]))",
             ),
             (
                 "A drag that waits gets the lock in the end; and again and again a thumbnail job runs, or a drag waits or has the lock.",
-                ag(p("waits").implies(af(p("drags"))) & af(p("thumb") | p("waits") | p("drags"))),
+                "AG ((p18 -> AF p19) & AF (p1 | p18 | p19))",
             ),
         ],
         verdict,
@@ -227,15 +225,15 @@ at any time, and at any time the service asks to make a thumbnail. A drag that w
         rules: vec![
             (
                 "The lock is taken while the host drags and while the service works, and these never come together.",
-                ag((p("drags") | p("works")).implies(p("taken")) & !(p("drags") & p("works"))),
+                "AG ((p18 | p36 -> p0) & !(p18 & p36))",
             ),
             (
                 "A drag that waits while no thumbnail job runs gets the lock before any thumbnail job.",
-                ag((p("waits") & !p("works")).implies(until(!p("works"), p("drags")))),
+                "AG (p17 & !p36 -> A [ !p36 U p18 ])",
             ),
             (
                 "A thumbnail job that is asked for runs in the end, or a drag has the lock.",
-                ag(p("asks").implies(af(p("works") | p("drags")))),
+                "AG (p35 -> AF (p36 | p18))",
             ),
         ],
         verdict,
@@ -291,9 +289,9 @@ from being inside together.",
         signals: vec!["ask", "enter", "leave"],
         propositions: vec!["wants1", "inside1", "wants2", "inside2"],
         rules: vec![
-            ("The two are never inside together.", ag(!(p("inside1") & p("inside2")))),
-            ("If the first wants to enter, it does in the end.", ag(p("wants1").implies(af(p("inside1"))))),
-            ("If the second wants to enter, it does in the end.", ag(p("wants2").implies(af(p("inside2"))))),
+            ("The two are never inside together.", "AG !(p1 & p19)"),
+            ("If the first wants to enter, it does in the end.", "AG (p0 -> AF p1)"),
+            ("If the second wants to enter, it does in the end.", "AG (p18 -> AF p19)"),
         ],
         verdict: Verdict::Converter,
         why: "Where both want to enter, one is let in and the other after it.",
@@ -353,12 +351,9 @@ brought one. (Three and three would need 19 states a side, which is more than 16
         rules: vec![
             (
                 "On no bank are missionaries fewer than cannibals unless there are none: where the missionaries are parted, so are the cannibals. The boat carries one or two.",
-                ag(p("m1").implies(p("c1"))
-                    & p("mb0").implies(p("cb1") | p("cb2"))
-                    & p("mb1").implies(p("cb0") | p("cb1"))
-                    & p("mb2").implies(p("cb0"))),
+                "AG ((p1 -> p22) & (p2 -> p24 | p25) & (p3 -> p23 | p24) & (p4 -> p23))",
             ),
-            ("In the end nobody is on the left bank.", af(p("m0") & p("c0"))),
+            ("In the end nobody is on the left bank.", "AF (p0 & p21)"),
         ],
         verdict: Verdict::Converter,
         why: "\
@@ -401,15 +396,15 @@ answered at the next tick, with a packet or with `end`. Neither knows the other'
         rules: vec![
             (
                 "No packet is received that wasn't sent.",
-                ag((p("ready") & p("polled")).implies(ax(p("sent") | !p("got")))),
+                "AG (p0 & p18 -> AX (p1 | !p19))",
             ),
             (
                 "Every packet that was sent is received while the sender still holds it.",
-                ag(p("sent").implies(until(p("sent"), p("sent") & p("got")))),
+                "AG (p1 -> A [ p1 U p1 & p19 ])",
             ),
             (
                 "A packet that was received is acknowledged at once, so that none is received twice.",
-                ag(p("got").implies(ax(p("ready")))),
+                "AG (p19 -> AX p0)",
             ),
         ],
         verdict: Verdict::Converter,
@@ -452,12 +447,11 @@ for each word it reads.",
         rules: vec![
             (
                 "The master writes before, or when, the slave reads; and each write is read before the master goes on.",
-                ag((!p("wrote")).implies(ax(p("wrote") | !p("read")))
-                    & p("wrote").implies(until(p("wrote"), p("wrote") & p("read")))),
+                "AG ((!p0 -> AX (p0 | !p17)) & (p0 -> A [ p0 U p0 & p17 ]))",
             ),
             (
                 "One read per write: after a read there is none before the master has gone on.",
-                ag(p("read").implies(ax(until(!p("read"), !p("wrote"))))),
+                "AG (p17 -> AX A [ !p17 U !p0 ])",
             ),
         ],
         verdict: Verdict::Converter,
@@ -488,17 +482,11 @@ fn arbiter_with(
         signals: vec!["request", "grant", "done", "data"],
         propositions: vec!["granted", "waits", "access"],
         rules: vec![
-            (
-                "The master uses the bus only while it is granted.",
-                ag(p("access").implies(p("granted"))),
-            ),
-            (
-                "A master that waits gets access in the end.",
-                ag(p("waits").implies(af(p("access")))),
-            ),
+            ("The master uses the bus only while it is granted.", "AG (p18 -> p0)"),
+            ("A master that waits gets access in the end.", "AG (p17 -> AF p18)"),
             (
                 "A grant is taken up or given back at the next tick.",
-                ag((p("granted") & !p("access")).implies(ax(p("access") | !p("granted")))),
+                "AG (p0 & !p18 -> AX (p18 | !p0))",
             ),
         ],
         verdict,
@@ -553,7 +541,6 @@ grant back after one. The paper reports the same failure.",
 }
 
 fn arbiter_masters() -> Example {
-    let used = || p("produces") | p("consumes");
     Example {
         name: "arbiter-masters",
         title: "Arbiter with producer and consumer (12)",
@@ -589,12 +576,11 @@ for the bus, and each uses it for two ticks.",
         rules: vec![
             (
                 "A master uses the bus only while it is granted; a grant is taken up or given back at the next tick.",
-                ag(used().implies(p("granted"))
-                    & (p("granted") & !used()).implies(ax(used() | !p("granted")))),
+                "AG ((p17 | p18 -> p0) & (p0 & !(p17 | p18) -> AX (p17 | p18 | !p0)))",
             ),
             (
                 "Again and again the producer gets to execute, and so does the consumer.",
-                ag(af(p("produces")) & af(p("consumes"))),
+                "AG (AF p17 & AF p18)",
             ),
         ],
         verdict: Verdict::Converter,

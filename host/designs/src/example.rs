@@ -1,11 +1,9 @@
-//! Tables with named states, signals and propositions.
+//! Tables with named states, signals and propositions, and rules as they are typed.
 
 use std::array::from_fn;
 
-use checker::bytes::{self, idle_side, Design};
+use checker::bytes::{self, idle_side, read_design, Design, RULE_BLOCKS};
 use checker::joined::proposition;
-
-use crate::rule::{Records, Rule};
 
 /// An event of a side.
 #[derive(Clone, Copy, Debug, PartialEq, Eq)]
@@ -72,8 +70,8 @@ pub struct Example {
     /// The propositions, each held by states of one side alone: its place here is its bit in their
     /// label words.
     pub propositions: Vec<&'static str>,
-    /// The rules, each in words and as a formula.
-    pub rules: Vec<(&'static str, Rule)>,
+    /// The rules, each in words and as it is typed, where propositions go by their numbers.
+    pub rules: Vec<(&'static str, &'static str)>,
     /// The verdict that was thought out beforehand.
     pub verdict: Verdict,
     /// Why it is so.
@@ -91,16 +89,44 @@ impl Example {
         format!("{}.{kind}", self.name)
     }
 
-    /// The design, with every name replaced by its number.
-    pub fn design(&self) -> Design {
+    /// The rules as one types them, a rule a line.
+    pub fn text(&self) -> String {
+        self.rules.iter().map(|(_, typed)| format!("{typed}\n")).collect()
+    }
+
+    /// A typed rule with the names of the propositions in the place of their numbers.
+    pub fn named(&self, typed: &str) -> String {
         let propositions = self.numbered_propositions();
-        let mut records = Records::new(&propositions);
-        let rules = self.rules.iter().map(|(_, rule)| records.put(rule) as u8).collect();
+        let name = |word: &str| {
+            let number = word.strip_prefix('p').and_then(|digits| digits.parse().ok());
+            number.map_or(word.to_string(), |number: u8| {
+                let known = propositions.iter().find(|(own, _)| *own == number);
+                known.unwrap_or_else(|| panic!("no proposition {word}")).1.to_string()
+            })
+        };
+        // A word ends where a sign or a space begins, and the other way round.
+        let in_word = |byte: &u8| byte.is_ascii_alphanumeric();
+        let pieces = typed.as_bytes().chunk_by(|left, right| in_word(left) == in_word(right));
+        pieces.map(|piece| name(&String::from_utf8_lossy(piece))).collect()
+    }
+
+    /// The design, with every name replaced by its number. Its last two blocks are what the reader
+    /// of rules makes of the text.
+    pub fn design(&self) -> Design {
+        for (_, typed) in &self.rules {
+            // Each number in it is a proposition's.
+            self.named(typed);
+        }
         let sides = from_fn(|side| match self.sides.get(side) {
             Some(states) => self.side(states),
             None => idle_side(),
         });
-        Design { sides, formulas: records.formulas, rules }
+        let mut bytes = Design { sides, formulas: vec![], rules: vec![] }.to_bytes();
+        let end = bytes.len() - RULE_BLOCKS;
+        let name = self.name;
+        checker::rules(self.text().as_bytes(), &mut bytes[end..])
+            .unwrap_or_else(|number| panic!("the rules of {name} are refused: {number}"));
+        read_design(&bytes).unwrap_or_else(|number| panic!("{name} is refused: {number}"))
     }
 
     /// The propositions with their numbers: the kernel's count from 0, the host's from 16, the

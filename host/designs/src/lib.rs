@@ -1,8 +1,7 @@
 //! The worked examples: the tables of the sides and their rules as readable data,
-//! from which the design file and the page are written.
+//! from which the design file, the text of the rules and the page are written.
 //!
-//! - [`rule`]: rules as people write them, in the manner of NuSMV.
-//! - [`example`]: tables with named states and signals.
+//! - [`example`]: tables with named states and signals, and rules as they are typed.
 //! - [`collection`]: the examples themselves.
 //! - [`page`]: the page that shows tables, rules, verdict and converter.
 
@@ -11,4 +10,3 @@
 pub mod collection;
 pub mod example;
 pub mod page;
-pub mod rule;

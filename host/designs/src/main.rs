@@ -1,5 +1,5 @@
-//! Writes the examples: for each its design and its page, and with `--search` also what the convert
-//! program would write for it, by the second checker's search. Without it the page shows
+//! Writes the examples: for each its design, the text of its rules and its page, and with `--search`
+//! also what the convert program would write for it, by the second checker's search. Without it the page shows
 //! what stands beside the design.
 
 use std::path::Path;
@@ -22,6 +22,7 @@ fn main() -> io::Result<()> {
     for example in &examples {
         let design = example.design();
         fs::write(folder.join(format!("{}.design", example.name)), design.to_bytes())?;
+        fs::write(folder.join(format!("{}.rules", example.name)), example.text())?;
         let beside = folder.join(example.answer_file());
         if search {
             fs::write(&beside, searched(&design))?;

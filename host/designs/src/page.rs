@@ -40,9 +40,14 @@ fn write_page(
     writeln!(out, "Signals: {}.  ", numbered((1..).zip(example.signals.iter().copied()), ""))?;
     writeln!(out, "Propositions: {}.\n", numbered(example.numbered_propositions(), "p"))?;
     writeln!(out, "## Rules\n")?;
-    for (number, (words, rule)) in (1..).zip(&example.rules) {
-        writeln!(out, "{number}. {words}\n\n       {rule}\n")?;
+    for (number, (words, typed)) in (1..).zip(&example.rules) {
+        writeln!(out, "{number}. {words}\n\n       {}\n", example.named(typed))?;
     }
+    writeln!(out, "As typed, with the numbers of the propositions ({}.rules):\n", example.name)?;
+    for (_, typed) in &example.rules {
+        writeln!(out, "    {typed}")?;
+    }
+    writeln!(out)?;
     let design = example.design();
     writeln!(out, "## Verdict\n")?;
     writeln!(
@@ -145,10 +150,11 @@ fn grouped(number: u128) -> String {
 pub fn list(examples: &[Example]) -> String {
     let mut out = String::from(
         "# Examples\n\n\
-         Each design stands here as the file that the convert program reads (NAME.design), with what the program writes for it and a\n\
-         page that shows the tables, the rules and the converter (NAME.md). What it writes is the converter (NAME.converter) or, where\n\
-         none exists, the line `refused 16` (NAME.refused). Numbers in brackets are those of Table 2 of the paper that\n\
-         docs/SPECIFICATION.md names. Designs and pages are written from the data in host/designs:\n\n\
+         Each design stands here as the file that the convert program reads (NAME.design), with its rules as they are typed\n\
+         (NAME.rules), what the program writes for it and a page that shows the tables, the rules and the converter (NAME.md). The\n\
+         last two blocks of a design are what `gorzhani_rules` makes of the text. What the program writes is the converter\n\
+         (NAME.converter) or, where none exists, the line `refused 16` (NAME.refused). Numbers in brackets are those of Table 2 of\n\
+         the paper that docs/SPECIFICATION.md names. Designs, texts and pages are written from the data in host/designs:\n\n\
          \x20   cd host && cargo run --release --offline --locked -p designs\n\n\
          and what stands beside a design by `target/bin/convert < NAME.design`.\n\n\
          | example | states | positions | verdict |\n|---|---|---|---|\n",

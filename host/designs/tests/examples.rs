@@ -39,6 +39,27 @@ fn designs_are_what_the_data_say() {
     }
 }
 
+/// The last two blocks of a design are what the reader makes of the text beside it.
+#[test]
+fn rules_are_read_from_the_text() {
+    for example in examples() {
+        let (name, typed) = (example.name, text(&format!("{}.rules", example.name)));
+        assert_eq!(typed, example.text(), "{name}");
+        let mut blocks = vec![0; 1_024];
+        assert_eq!(
+            checker::rules(typed.as_bytes(), &mut blocks),
+            Ok(example.rules.len()),
+            "{name}"
+        );
+        let design = file(&format!("{name}.design"));
+        assert!(design[design.len() - 1_024..] == blocks, "{name}");
+        // What is typed has no needless brackets, and spaces as everywhere.
+        let read = checker::rules::read_text(typed.as_bytes()).expect("it is read");
+        let again: String = read.iter().map(|rule| format!("{rule}\n")).collect();
+        assert_eq!(again, typed, "{name}");
+    }
+}
+
 #[test]
 fn pages_are_what_the_data_say() {
     let examples = examples();
@@ -49,7 +70,7 @@ fn pages_are_what_the_data_say() {
     assert_eq!(text("README.md"), page::list(&examples));
 }
 
-/// Each example has three files, of which one says by its name whether a converter exists; nothing
+/// Each example has four files, of which one says by its name whether a converter exists; nothing
 /// else stands there.
 #[test]
 fn no_other_files() {
@@ -59,7 +80,8 @@ fn no_other_files() {
             Some(_) => "converter",
             None => "refused",
         };
-        expected.extend(["design", "md", answer].map(|kind| format!("{}.{kind}", example.name)));
+        let kinds = ["design", "rules", "md", answer];
+        expected.extend(kinds.map(|kind| format!("{}.{kind}", example.name)));
     }
     let names = fs::read_dir(folder()).expect("there are examples").map(|entry| {
         let name = entry.expect("the folder can be read").file_name();
@@ -153,10 +175,29 @@ fn a_proposition_of_no_side() {
 }
 
 #[test]
-fn one_rule_as_typed() {
-    let typed: Vec<String> = examples()[0].rules.iter().map(|(_, rule)| rule.to_string()).collect();
-    assert_eq!(typed[0], "AG (idle1 & idle2 -> AX (rout | !rin))");
-    assert_eq!(typed[3], "AG (idle1 & rin -> AX (!rout | idle2))");
-    let thumbnails = &examples()[4];
-    assert_eq!(thumbnails.rules[1].1.to_string(), "AG (waits & !works -> A [ !works U drags ])");
+#[should_panic(expected = "no proposition p2")]
+fn a_rule_of_a_proposition_that_no_state_holds() {
+    let mut handshake = examples().remove(0);
+    handshake.rules[0].1 = "AG (p0 & p2 -> AX p1)";
+    handshake.design();
+}
+
+#[test]
+#[should_panic(expected = "the rules of handshake are refused: 20")]
+fn a_rule_that_is_refused() {
+    let mut handshake = examples().remove(0);
+    handshake.rules[0].1 = "AG !AX p1";
+    handshake.design();
+}
+
+#[test]
+fn rules_by_their_names() {
+    let named = |example: usize, rule: usize| {
+        let example = &examples()[example];
+        example.named(example.rules[rule].1)
+    };
+    assert_eq!(named(0, 0), "AG (idle1 & idle2 -> AX (rout | !rin))");
+    assert_eq!(named(0, 3), "AG (idle1 & rin -> AX (!rout | idle2))");
+    assert_eq!(named(4, 1), "AG (waits & !works -> A [ !works U drags ])");
+    assert_eq!(named(7, 1), "AF (m0 & c0)");
 }

@@ -26,6 +26,16 @@ pub const ENTRY: usize = 4;
 pub const MOST_WAITS: u8 = 15;
 /// The greatest count of an entry whose state may wait for ever.
 pub const NO_GREATEST: u8 = 255;
+/// The bytes of the blocks that typed rules become: that of the formulas and that of the rules, the last two of a design.
+pub const RULE_BLOCKS: usize = 1024;
+/// The most formulas that a text of rules makes, and the most of a design.
+pub const MOST_FORMULAS: usize = 64;
+/// The most rules of a text, and of a design.
+pub const MOST_RULES: usize = 16;
+/// The most brackets of a typed rule, round and square ones, that may be open together.
+pub const MOST_BRACKETS: usize = 32;
+/// The number of the last name that rules are typed with: they are p0 to p47, the labels of the three sides.
+pub const LAST_NAME: u8 = 47;
 
 /// The record that a runner stands at, and the events last delivered to the sides.
 #[repr(C)]
@@ -87,6 +97,7 @@ extern "C" {
         result: *mut u8,
         result_len: usize,
     ) -> i32;
+    fn gorzhani_rules(text: *const u8, text_len: usize, blocks: *mut u8, blocks_len: usize) -> i32;
 }
 
 fn answer(code: i32) -> Result<usize, Refused> {
@@ -175,4 +186,11 @@ pub fn ranges(design: &[u8], entries: &[u8], result: &mut [u8]) -> Result<(), Re
         )
     })
     .map(|_| ())
+}
+
+/// Reads rules as people type them, one a line and each line ended by a newline: lend [`RULE_BLOCKS`] bytes. The count of rules; the blocks of their formulas
+/// and of the rules stand at the front, as at the end of a design. The C header says how rules are typed.
+pub fn rules(text: &[u8], blocks: &mut [u8]) -> Result<usize, Refused> {
+    // SAFETY: as above.
+    answer(unsafe { gorzhani_rules(text.as_ptr(), text.len(), blocks.as_mut_ptr(), blocks.len()) })
 }

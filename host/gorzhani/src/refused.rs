@@ -53,6 +53,11 @@ refusals! {
     NO_CONVERTER = 16, "no converter exists, of any size";
     TICK = 17, "the runner's record isn't there, a shown event is above 0 or below -63, or no \
         transition fits";
+    TEXT = 19, "a text isn't of the grammar of rules, has a line without a rule or no newline at its \
+        end, or has over 32 brackets open together";
+    SOME_PATH = 20, "a typed rule says \"some path\", or has a temporal part under `!` or left of \
+        `->`";
+    TOO_MANY_FORMULAS = 21, "a text makes over 64 formulas or over 16 rules";
     RANGES = 22, "a list of ranges is no multiple of 4 bytes, or an entry of it has a side over 2, \
         a state that isn't there or isn't delayed with its tick to itself, a count over 15 that \
         isn't 255 as the greatest, a least count above the greatest, or a state named before";

@@ -1,12 +1,13 @@
 //! The files of the examples folder under the library: what is shown beside each
-//! design is what the library answers today. The files were made by it, so this
-//! only finds pages out of date; that the verdicts and converters are right is
-//! tested in host/designs, by the second checker.
+//! design is what the library answers today, and the design's rules are what it
+//! reads from the text beside it. The converters were made by it, so this only
+//! finds pages out of date; that the verdicts and converters are right is tested in
+//! host/designs, by the second checker, which made the rules of the designs.
 
 use std::fs;
 use std::path::Path;
 
-use gorzhani::{Refused, BLOCK, BLOCK_RECORDS, CELL, RECORD};
+use gorzhani::{Refused, BLOCK, BLOCK_RECORDS, CELL, RECORD, RULE_BLOCKS};
 
 /// What the convert program lends: room for 1,152 positions.
 const POSITIONS: usize = 1_152;
@@ -21,6 +22,11 @@ fn examples() {
             continue;
         }
         let design = fs::read(&path).expect("the design can be read");
+        let text = fs::read(path.with_extension("rules")).expect("its rules stand beside it");
+        let mut typed = [0xA5; RULE_BLOCKS];
+        let rules = gorzhani::rules(&text, &mut typed);
+        assert_eq!(rules, Ok(text.iter().filter(|&&byte| byte == b'\n').count()), "{path:?}");
+        assert!(design.ends_with(&typed), "{path:?} has other rules than its text");
         let mut table = vec![0; RECORD * POSITIONS];
         let answer = gorzhani::search(&design, &mut table, &mut vec![0; CELL * POSITIONS]);
         if let Ok(line) = fs::read(path.with_extension("refused")) {

@@ -5,16 +5,16 @@ mod common;
 use std::collections::BTreeSet;
 use std::error::Error;
 
-use checker::{ranges, refusal};
+use checker::{bytes, ranges, refusal, rules};
 use common::header;
 use gorzhani::{
-    Refused, BLOCK, BLOCK_RECORDS, CELL, ENTRY, FIVE_BLOCKS, FOUR_BLOCKS, MOST, MOST_WAITS,
-    NO_GREATEST, RECORD,
+    Refused, BLOCK, BLOCK_RECORDS, CELL, ENTRY, FIVE_BLOCKS, FOUR_BLOCKS, LAST_NAME, MOST,
+    MOST_BRACKETS, MOST_FORMULAS, MOST_RULES, MOST_WAITS, NO_GREATEST, RECORD, RULE_BLOCKS,
 };
 
 /// The numbers that there are.
 fn numbers() -> impl Iterator<Item = u8> {
-    (1..=17).chain(22..=23)
+    (1..=17).chain(19..=23)
 }
 
 /// What stands behind the number.
@@ -45,6 +45,9 @@ fn each_number_says_what_is_wrong() {
         "some rule doesn't hold",
         "no converter exists",
         "a shown event is above 0 or below -63",
+        "the grammar of rules",
+        "a temporal part under `!`",
+        "over 64 formulas or over 16 rules",
         "a list of ranges",
         "over 16 states after replacement",
     ];
@@ -96,6 +99,9 @@ fn constants() {
         ("RULE", Refused::RULE, refusal::RULE),
         ("NO_CONVERTER", Refused::NO_CONVERTER, refusal::NONE),
         ("TICK", Refused::TICK, refusal::TICK),
+        ("TEXT", Refused::TEXT, refusal::TEXT),
+        ("SOME_PATH", Refused::SOME_PATH, refusal::SOME_PATH),
+        ("TOO_MANY_FORMULAS", Refused::TOO_MANY_FORMULAS, refusal::TOO_MANY_FORMULAS),
         ("RANGES", Refused::RANGES, refusal::RANGES),
         ("TOO_MANY_STATES", Refused::TOO_MANY_STATES, refusal::TOO_MANY_STATES),
     ];
@@ -120,11 +126,26 @@ fn constants() {
         ("ENTRY_BYTES", ENTRY),
         ("MOST_WAITS", usize::from(MOST_WAITS)),
         ("NO_GREATEST", usize::from(NO_GREATEST)),
+        ("RULE_BLOCKS_BYTES", RULE_BLOCKS),
+        ("MOST_FORMULAS", MOST_FORMULAS),
+        ("MOST_RULES", MOST_RULES),
+        ("MOST_BRACKETS", MOST_BRACKETS),
+        ("LAST_NAME", usize::from(LAST_NAME)),
     ] {
         assert_eq!(header(&format!("GORZHANI_{name}")), size, "{name}");
     }
     assert_eq!(
         (ENTRY, MOST_WAITS, NO_GREATEST),
         (ranges::ENTRY_BYTES, ranges::MOST_WAITS, ranges::NO_GREATEST)
+    );
+    assert_eq!(
+        (RULE_BLOCKS, MOST_FORMULAS, MOST_RULES, MOST_BRACKETS, usize::from(LAST_NAME) + 1),
+        (
+            bytes::RULE_BLOCKS,
+            bytes::MOST_FORMULAS,
+            bytes::MOST_RULES,
+            rules::MOST_DEPTH,
+            bytes::PROPOSITIONS
+        )
     );
 }

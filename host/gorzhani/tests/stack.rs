@@ -5,6 +5,8 @@
 mod common;
 #[path = "../../checker/tests/samples/mod.rs"]
 mod samples;
+#[path = "../../checker/tests/typed/mod.rs"]
+mod typed;
 #[path = "../../checker/tests/waits/mod.rs"]
 mod waits;
 
@@ -12,13 +14,14 @@ use std::arch::asm;
 
 use checker::bytes::{converter_bytes, Formula, SIDES};
 use checker::generate::{
-    any_bytes, any_converter, any_ranges, block_file, damage, flawed_list, loose_converter, script,
-    waiting_design, Random,
+    any_bytes, any_converter, any_ranges, any_text, block_file, damage, damage_text, flawed_list,
+    loose_converter, script, text_at_limits, waiting_design, Random,
 };
 use checker::ranges::list_bytes;
 use common::{header, mixed_design, Answers};
-use gorzhani::{Runner, BLOCK, BLOCK_RECORDS, CELL, FIVE_BLOCKS, MOST, RECORD};
+use gorzhani::{Runner, BLOCK, BLOCK_RECORDS, CELL, FIVE_BLOCKS, MOST, RECORD, RULE_BLOCKS};
 use samples::{rings, three_rings};
+use typed::{at_the_limits, long_texts};
 use waits::rows_at_the_limit;
 
 // The library's functions, to be called by hand.
@@ -30,6 +33,7 @@ extern "C" {
     fn gorzhani_read();
     fn gorzhani_tick();
     fn gorzhani_ranges();
+    fn gorzhani_rules();
 }
 
 /// Sixteen bytes of a stack, aligned as the convention asks for.
@@ -110,6 +114,7 @@ struct Calls {
     read: Call,
     tick: Call,
     ranges: Call,
+    rules: Call,
 }
 
 impl Calls {
@@ -122,6 +127,7 @@ impl Calls {
             read: Call::new(gorzhani_read),
             tick: Call::new(gorzhani_tick),
             ranges: Call::new(gorzhani_ranges),
+            rules: Call::new(gorzhani_rules),
         }
     }
 
@@ -183,6 +189,14 @@ impl Calls {
             self.ranges.done([at, length, list_at, list_length, result_at, result_length]);
         }
     }
+
+    /// Reads typed rules with so many bytes lent.
+    fn rules(&mut self, text: &[u8], lent: usize) {
+        let mut blocks = vec![0; lent];
+        let ([at, length], [blocks_at, blocks_length]) = (read(text), written(&mut blocks));
+        // SAFETY: as above.
+        unsafe { self.rules.with([at, length, blocks_at, blocks_length, 0, 0]) };
+    }
 }
 
 /// Bytes that are read, as arguments.
@@ -228,6 +242,22 @@ fn no_call_takes_more_than_the_header_says() {
         }
         let lent = bytes.len().saturating_sub(usize::from(random.once_in(8)));
         calls.ranges(&bytes, &list, lent);
+
+        let mut text = match round % 2 {
+            0 => any_text(&mut random).bytes,
+            _ => text_at_limits(&mut random).bytes,
+        };
+        if random.once_in(3) {
+            damage_text(&mut random, &mut text);
+        }
+        calls.rules(&text, RULE_BLOCKS - usize::from(random.once_in(8)));
+    }
+    // As many brackets as may be open, and all that may be repeated in a text.
+    for (text, ..) in at_the_limits() {
+        calls.rules(text.as_bytes(), RULE_BLOCKS);
+    }
+    for (_, text, ..) in long_texts() {
+        calls.rules(text.as_bytes(), RULE_BLOCKS);
     }
     // As many states as a side may have, and as many entries as a list.
     for (full, list, _) in rows_at_the_limit() {
@@ -251,4 +281,5 @@ fn no_call_takes_more_than_the_header_says() {
     calls.tick.took(&[0, 10, 11, 17], "GORZHANI_TICK_STACK");
     let replaced = [0, 1, 2, 3, 4, 5, 6, 7, 8, 12, 22, 23];
     calls.ranges.took(&replaced, "GORZHANI_RANGES_STACK");
+    calls.rules.took(&[0, 12, 19, 20, 21], "GORZHANI_RULES_STACK");
 }

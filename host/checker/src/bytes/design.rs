@@ -6,7 +6,8 @@ use std::ops::RangeInclusive;
 
 use super::{
     headed, in_range, seal, sealed, word, BLOCK_BYTES, CHECKED_BYTES, FIVE_BLOCKS, FORMULA_BYTES,
-    FOUR_BLOCKS, HEADER_BYTES, MOST_STATES, PLACES, PROPOSITIONS, SIDES, STATE_BYTES,
+    FOUR_BLOCKS, HEADER_BYTES, MOST_FORMULAS, MOST_RULES, MOST_STATES, PLACES, PROPOSITIONS, SIDES,
+    STATE_BYTES,
 };
 use crate::refusal::{self, demand};
 
@@ -143,9 +144,8 @@ impl Design {
         for (kind, states) in SIDE_KINDS.into_iter().zip(&self.sides).take(sides) {
             bytes.extend(state_block(kind, states));
         }
-        bytes.extend(formula_block(&self.formulas));
-        bytes.extend(rule_block(&self.rules));
         seal(&mut bytes);
+        bytes.extend(rule_blocks(&self.formulas, &self.rules));
         bytes
     }
 }
@@ -215,9 +215,9 @@ fn headed_right(kind: u8, block: &[u8]) -> bool {
 /// How many records a block of this kind may have.
 fn limits(kind: u8) -> RangeInclusive<u8> {
     match kind {
-        FORMULA_KIND => 0..=64,
-        RULE_KIND => 0..=16,
-        _ => 1..=16,
+        FORMULA_KIND => 0..=MOST_FORMULAS as u8,
+        RULE_KIND => 0..=MOST_RULES as u8,
+        _ => 1..=MOST_STATES as u8,
     }
 }
 
@@ -316,9 +316,17 @@ fn state_block(kind: u8, states: &[State]) -> [u8; BLOCK_BYTES] {
     block
 }
 
+/// The formulas and the rules as two sealed blocks. Nothing is checked beyond what the places
+/// hold.
+pub fn rule_blocks(formulas: &[Formula], rules: &[u8]) -> Vec<u8> {
+    let mut bytes = [formula_block(formulas), rule_block(rules)].concat();
+    seal(&mut bytes);
+    bytes
+}
+
 /// The formulas as a block, not yet sealed.
 fn formula_block(formulas: &[Formula]) -> [u8; BLOCK_BYTES] {
-    assert!(formulas.len() <= 64, "a design has at most 64 formulas");
+    assert!(formulas.len() <= MOST_FORMULAS, "a design has at most 64 formulas");
     let mut block = headed(FORMULA_KIND, formulas.len(), 0);
     for (record, &formula) in block[HEADER_BYTES..].chunks_mut(FORMULA_BYTES).zip(formulas) {
         let (kind, a, b) = match formula {
@@ -339,7 +347,7 @@ fn formula_block(formulas: &[Formula]) -> [u8; BLOCK_BYTES] {
 
 /// The rules as a block, not yet sealed.
 fn rule_block(rules: &[u8]) -> [u8; BLOCK_BYTES] {
-    assert!(rules.len() <= 16, "a design has at most 16 rules");
+    assert!(rules.len() <= MOST_RULES, "a design has at most 16 rules");
     let mut block = headed(RULE_KIND, rules.len(), 0);
     block[HEADER_BYTES..][..rules.len()].copy_from_slice(rules);
     block

@@ -9,7 +9,8 @@ mod record;
 
 pub use blocks::{read_blocks, write_blocks};
 pub use design::{
-    idle_side, positions, read_design, Design, Formula, State, StateKind, Transition, THIRD_KIND,
+    idle_side, positions, read_design, rule_blocks, Design, Formula, State, StateKind, Transition,
+    THIRD_KIND,
 };
 pub use record::{converter_bytes, read_converter_memory, read_record, record_count, Link, Record};
 
@@ -26,6 +27,8 @@ pub const SIDES: usize = 3;
 pub const FIVE_BLOCKS: usize = 5 * BLOCK_BYTES;
 /// Bytes in a design that has no block for the third side.
 pub const FOUR_BLOCKS: usize = 4 * BLOCK_BYTES;
+/// Bytes in the last two blocks of a design: that of the formulas and that of the rules.
+pub const RULE_BLOCKS: usize = 2 * BLOCK_BYTES;
 /// Bytes in a state record.
 pub const STATE_BYTES: usize = 20;
 /// Bytes in a formula record.
@@ -48,6 +51,10 @@ pub const MOST_STATES: usize = 16;
 pub const SIDE_LABELS: usize = 16;
 /// The propositions that formulas may name: every label of every side.
 pub const PROPOSITIONS: usize = SIDES * SIDE_LABELS;
+/// The most formulas of a design.
+pub const MOST_FORMULAS: usize = 64;
+/// The most rules of a design.
+pub const MOST_RULES: usize = 16;
 /// The most records that a converter in memory or in a file has.
 pub const MOST_RECORDS: usize = 65_536;
 /// Records in every block of a converter file but perhaps the last: as many as it holds.

@@ -7,7 +7,7 @@
 use checker::bytes::{positions, read_blocks, read_design, write_blocks, Design, SIDES};
 use checker::generate::{any_design, design, ruled_design, Random, Shape};
 use checker::ranges::like;
-use gorzhani::{Refused, Runner, BLOCK, CELL, RECORD};
+use gorzhani::{Refused, Runner, BLOCK, CELL, RECORD, RULE_BLOCKS};
 
 const GUARD: usize = 64;
 
@@ -277,6 +277,26 @@ pub fn ranges_agrees(bytes: &[u8], list: &[u8], length: usize) -> u8 {
         assert!(result.untouched(), "{list:?} {:?}", read_design(bytes));
     }
     number(answer)
+}
+
+/// Reads typed rules by both, with a lent result of this length. What is lent stands at odd
+/// addresses.
+pub fn rules_agrees(text: &[u8], length: usize) -> u8 {
+    let lent = Lent::holding(text).odd();
+    let mut blocks = Lent::new(length).odd();
+    let answer = gorzhani::rules(lent.part(), blocks.part_mut());
+    let mut other_blocks = vec![0; length];
+    let other = checker::rules(text, &mut other_blocks);
+    assert!(lent.untouched());
+    assert_eq!(answer.map_err(|Refused(number)| number), other, "{}", beginning(text));
+    let written = if answer.is_ok() { RULE_BLOCKS } else { 0 };
+    assert!(blocks.holds(&other_blocks[..written]), "{}", beginning(text));
+    number(answer)
+}
+
+/// The beginning of a text, for a message.
+pub fn beginning(text: &[u8]) -> String {
+    format!("{:?}", String::from_utf8_lossy(&text[..text.len().min(400)]))
 }
 
 /// A runner of the library as the second checker has it.

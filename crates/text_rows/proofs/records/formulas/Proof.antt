@@ -1,0 +1,32 @@
+-- `records::formulas` meets its contract: i is at most n.
+use Prim.Native.Nat.{_-_, _≤_}
+use borrow.Author.Needs.{needs}
+use Rattle.text_rows.proofs.records.formulas.Statement.{statement}
+use Rattle.text_rows.proofs.records.formulas.Tie as tie
+
+abbrev Inv-loop : tie.InvT-loop
+Inv-loop lent n i₀ i = i ≤ n
+
+abbrev μ-loop : tie.MeasureT-loop
+μ-loop lent n i₀ i = n - i
+
+loop-holds : tie.Need-loop-holds Inv-loop μ-loop
+loop-holds c = search needs
+
+formula-requires : tie.Need-formula-requires Inv-loop μ-loop
+formula-requires c κs = search needs
+
+add-i : tie.Need-add-i Inv-loop μ-loop
+add-i c = search needs
+
+loop-less : tie.Need-loop-less Inv-loop μ-loop
+loop-less c = search needs
+
+loop-again : tie.Need-loop-again Inv-loop μ-loop
+loop-again c = search needs
+
+returns : tie.Need-returns Inv-loop μ-loop
+returns c = search needs
+
+pub formulas-spec : {M : Type 1} → statement M
+formulas-spec = tie.close (tie.spec Inv-loop μ-loop loop-holds formula-requires add-i loop-less loop-again returns)
