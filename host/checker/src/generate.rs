@@ -1,8 +1,9 @@
-//! Seeded random designs, converters, converter files, lists of ranges and texts of rules, sound
-//! and damaged.
+//! Seeded random designs, converters, converter files, lists of ranges, texts of rules and pages,
+//! sound and damaged.
 //!
 //! The same seed always gives the same things.
 
+mod pages;
 mod ranges;
 mod rules;
 
@@ -18,6 +19,7 @@ use crate::joined::{enabling, joint_states, proposition, steps, Enabling, Joint,
 use crate::judge::model;
 use crate::tick::{tick, PlainSides, Runner};
 
+pub use pages::{damaged_page, page, Made};
 pub use ranges::{any_ranges, flawed_list, waiting_design, with_waits, Flaw};
 pub use rules::{
     any_text, damage_text, every_name, sound_text, text_at_limits, token_text, typed_line,

@@ -29,7 +29,7 @@ pub fn matched(design: &Design, converter: &[Record]) -> bool {
 }
 
 /// Whether one record obeys what a converter may do.
-fn record_matched(design: &Design, converter: &[Record], record: &Record) -> bool {
+pub fn record_matched(design: &Design, converter: &[Record], record: &Record) -> bool {
     let joint = record.states.map(usize::from);
     if (0..SIDES).any(|side| joint[side] >= design.sides[side].len()) {
         return false;

@@ -18,8 +18,10 @@
 //!   any such table against the old one with counted waits.
 //! - [`rules`](mod@rules): rules as people type them, read in two ways, and what they mean as
 //!   they were typed.
-//! - [`generate`]: seeded random designs, converters, files, lists of ranges and texts, sound
-//!   and damaged.
+//! - [`page`]: designs as people write them at their desks, by name, with the places of the
+//!   mistakes.
+//! - [`generate`]: seeded random designs, converters, files, lists of ranges, texts and pages,
+//!   sound and damaged.
 
 #![forbid(unsafe_code)]
 
@@ -30,6 +32,7 @@ pub mod generate;
 pub mod joined;
 pub mod judge;
 pub mod none;
+pub mod page;
 pub mod ranges;
 pub mod refusal;
 pub mod rules;
