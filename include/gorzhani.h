@@ -5,9 +5,10 @@
  *
  * What the caller owes, and C cannot state:
  * - each pointer is valid for its length and not null, also where the length is 0;
- * - the runner's pointer is aligned as struct gorzhani_runner is, to 2 bytes; every other pointer may stand anywhere;
- * - what is written (table, work, the blocks of a write and of rules, the converter of a read, the runner, the result of ranges) overlaps no other buffer of
- *   the call; buffers that are only read may overlap;
+ * - the runner's pointer is aligned as struct gorzhani_runner is, to 2 bytes, and the pointer to waits as uint32_t is, to 4; every other pointer may stand
+ *   anywhere;
+ * - what is written (table, work, waits, the blocks of a write and of rules, the converter of a read, the runner, the result of ranges) overlaps no other
+ *   buffer of the call; buffers that are only read may overlap;
  * - nobody else writes any of these buffers meanwhile, nor reads those that are written;
  * - the stack has room for the call (GORZHANI_SEARCH_STACK and the others below).
  * All else is proved: no call is undefined, whoever made the input, and each bad input gets its number.
@@ -17,7 +18,7 @@
  *
  * What is lent may be longer than needed; the bytes behind stay as they are. It may hold anything before the call, also bytes that were never written: a
  * search reads some of those and tests what they say, which a memory checker may report. After a yes, 14, 15, 16 or a converter found the work that was
- * needed is zero; any other refusal changes no lent byte. */
+ * needed is zero; any other refusal changes no lent byte. The list of waits changes with a yes alone. */
 #ifndef GORZHANI_H
 #define GORZHANI_H
 
@@ -58,9 +59,10 @@ enum {
     GORZHANI_MOST_BLOCKS_BYTES = 3728384
 };
 
-/* The bytes of stack that a call takes at the most, its return address included, rounded up to whole KiB: the archive's frames add up to no more on any way
- * through it, and host/gorzhani/tests/stack.rs measures calls. Of memcpy and memset only the return address is counted, since the C library's take no more.
- * Where a program finds one of them at its first call alone (lazy binding), its loader takes about 3 KiB beside at that call. */
+/* The bytes of stack that a call takes at the most, its return address and those arguments included that are passed there (the last two of the judge), rounded
+ * up to whole KiB: the archive's frames add up to no more on any way through it, and host/gorzhani/tests/stack.rs measures calls. Of memcpy and memset only
+ * the return address is counted, since the C library's take no more. Where a program finds one of them at its first call alone (lazy binding), its loader takes
+ * about 3 KiB beside at that call. */
 enum {
     GORZHANI_POSITIONS_STACK = 1024,
     GORZHANI_SEARCH_STACK = 8192,
@@ -97,7 +99,7 @@ enum {
     /* a converter record has a side state over 15, a count outside 1 to 8, an event outside -63 to 63, an event triple twice, a next record that isn't there,
      * or an unused byte that isn't zero */
     GORZHANI_REFUSED_RECORD = 11,
-    /* the lent result is too short */
+    /* the lent result is too short; of a judge it is the list of waits */
     GORZHANI_REFUSED_SHORT_RESULT = 12,
     /* the lent work is too short */
     GORZHANI_REFUSED_SHORT_WORK = 13,
@@ -129,9 +131,16 @@ int32_t gorzhani_positions(const uint8_t *design, size_t design_len);
  * the front of the table, or refuses with 1 to 9, 12, 13, or 16 where no converter of any size exists. */
 int32_t gorzhani_search(const uint8_t *design, size_t design_len, uint8_t *table, size_t table_len, uint8_t *work, size_t work_len);
 
-/* Judges a converter against a design: lend 16 bytes of work for each record. Answers 0 where the converter is matched and keeps every rule on every path,
- * or refuses with 1 to 8, 10, 11, 13 to 15. */
-int32_t gorzhani_judge(const uint8_t *design, size_t design_len, const uint8_t *converter, size_t converter_len, uint8_t *work, size_t work_len);
+/* The wait of a rule that is no until. No until waits so long. */
+#define GORZHANI_NO_WAIT UINT32_C(4294967295)
+
+/* Judges a converter against a design: lend 16 bytes of work for each record and a number of waits for each rule (GORZHANI_MOST_RULES are enough for every
+ * design). Answers 0 where the converter is matched and keeps every rule on every path. For each rule, in their order, waits then has a number. Where the rule
+ * is an until A(a U b), of kind 8, it is the least number of ticks within which every path has reached b: 0 where b holds at the start, and never above the
+ * number of records less one. For a rule of another kind it is GORZHANI_NO_WAIT, also where an until stands inside it. waits_len counts numbers, not bytes;
+ * those behind the rules' stay as they are. Refuses with 1 to 8, 10 to 15; all of waits is then as it was. */
+int32_t gorzhani_judge(const uint8_t *design, size_t design_len, const uint8_t *converter, size_t converter_len, uint8_t *work, size_t work_len,
+                       uint32_t *waits, size_t waits_len);
 
 /* Writes a converter as blocks of 9 records: lend 512 bytes for each 9 records or part of them. Answers the number of blocks, or refuses with 10 to 12. */
 int32_t gorzhani_write(const uint8_t *converter, size_t converter_len, uint8_t *blocks, size_t blocks_len);
@@ -162,7 +171,7 @@ enum {
  * and of the counts, with the same labels. An empty list copies the design. Answers 0, or refuses with 1 to 8, 22, 23, 12. */
 int32_t gorzhani_ranges(const uint8_t *design, size_t design_len, const uint8_t *entries, size_t entries_len, uint8_t *result, size_t result_len);
 
-/* The most that a text of rules may make and may have open, and the last of its names, which begin with p0. */
+/* The most that a text of rules may make and may have open, and the last of its names, which begin with p0. A design has no more formulas nor rules either. */
 enum {
     GORZHANI_MOST_FORMULAS = 64,
     GORZHANI_MOST_RULES = 16,

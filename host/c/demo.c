@@ -1,6 +1,6 @@
 /* From a design to ticks, over the C header alone: the handshake pair of the README's example with no rules, then three sides of one state each. Then rules
  * over labels, each of which belongs to one side, the handshake pair with a wait that is known by range, and its rules as people type them. Prints what each
- * call answered. */
+ * call answered, and how long the rules of the handshake pair wait. */
 #include <stdio.h>
 #include <stdlib.h>
 #include <string.h>
@@ -79,9 +79,10 @@ static void ruled_by(int sides, int proposition) {
 static void ask(int sides, int proposition) {
     static uint8_t table[16 * GORZHANI_RECORD_BYTES], work[16 * GORZHANI_CELL_BYTES];
     uint8_t converter[2 * GORZHANI_RECORD_BYTES] = {0, 0, 0, 1, 0, 0, 0, 0, 1, 0, [GORZHANI_RECORD_BYTES] = 1, 1, 0, 1};
+    uint32_t wait;
     converter[GORZHANI_RECORD_BYTES + 2] = sides == 3;
     ruled_by(sides, proposition);
-    int32_t judged = gorzhani_judge(design, design_len, converter, sizeof converter, work, sizeof work);
+    int32_t judged = gorzhani_judge(design, design_len, converter, sizeof converter, work, sizeof work, &wait, 1);
     int32_t records = gorzhani_search(design, design_len, table, sizeof table, work, sizeof work);
     printf("proposition %d of %d sides: judge %d, search %s\n", proposition, sides, (int)judged, found(records));
 }
@@ -96,17 +97,30 @@ static void handshake(void) {
     state(1, 1, 1 << 3, 1, t1);
 }
 
-/* Searches a converter for a design of at most 1,024 positions and judges it. */
+/* Searches a converter for a design of at most 1,024 positions and judges it. Prints how long each rule waits at the most, and what comes of a list that is
+ * one number too short. */
 static void search_and_judge(const char *what, const uint8_t *searched) {
     static uint8_t table[1024 * GORZHANI_RECORD_BYTES], work[1024 * GORZHANI_CELL_BYTES];
+    uint32_t list[GORZHANI_MOST_RULES], unchanged[GORZHANI_MOST_RULES];
     int32_t positions = gorzhani_positions(searched, design_len);
     int32_t records = gorzhani_search(searched, design_len, table, sizeof table, work, sizeof work);
     printf("%s: positions %d, search %s\n", what, (int)positions, found(records));
     if (records <= 0) return;
-    printf("judge %d\n", (int)gorzhani_judge(searched, design_len, table, GORZHANI_RECORD_BYTES * (size_t)records, work, sizeof work));
+    size_t size = GORZHANI_RECORD_BYTES * (size_t)records, rules = searched[design_len - GORZHANI_BLOCK_BYTES + 1];
+    printf("judge %d, waits", (int)gorzhani_judge(searched, design_len, table, size, work, sizeof work, list, rules));
+    for (size_t rule = 0; rule < rules; rule++) {
+        if (list[rule] == GORZHANI_NO_WAIT) printf(" none");
+        else printf(" %u", (unsigned)list[rule]);
+    }
+    memset(list, 7, sizeof list);
+    memcpy(unchanged, list, sizeof list);
+    int32_t answer = gorzhani_judge(searched, design_len, table, size, work, sizeof work, list, rules - 1);
+    printf("\nshort waits: %s, %s\n", declined(answer, GORZHANI_REFUSED_SHORT_RESULT),
+           memcmp(list, unchanged, sizeof list) == 0 ? "the list is as it was" : "the list is another");
 }
 
-/* The handshake pair with the rule A(true U 1): s1 is to come. No converter exists, since s0 may wait for ever; where it waits twice at the most, one does. */
+/* The handshake pair with the rule A(true U 1): s1 is to come. No converter exists, since s0 may wait for ever; where it waits twice at the most, one does, and
+ * s1 comes in three ticks at the most. */
 static void waits(void) {
     static uint8_t patient[GORZHANI_FIVE_BLOCK_DESIGN_BYTES];
     const uint8_t formulas[] = {1, 0, 0, 0, 3, 1, 0, 0, 8, 0, 1, 0}, until = 2;
@@ -198,7 +212,9 @@ int main(void) {
     printf("search %s\n", found(records));
     if (records <= 0) return 1;
     size_t size = GORZHANI_RECORD_BYTES * (size_t)records;
-    printf("judge %d\n", (int)gorzhani_judge(design, design_len, table, size, work, work_len));
+    /* There are no rules, and so no waits; the pointer isn't null all the same. */
+    uint32_t none;
+    printf("judge %d\n", (int)gorzhani_judge(design, design_len, table, size, work, work_len, &none, 0));
 
     size_t blocks_len = GORZHANI_BLOCK_BYTES * (((size_t)records + GORZHANI_BLOCK_RECORDS - 1) / GORZHANI_BLOCK_RECORDS);
     uint8_t *blocks = lend(blocks_len), *again = lend(size);

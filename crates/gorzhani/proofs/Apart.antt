@@ -102,15 +102,15 @@ judge-gives k j e =
       | no n ↦ n (cc (where-some k (judge.answer-of j) (verdict.Refused k) n))
     ]
 
-module _ {ds cs work work′ : List ℕ} {r : ℤ} (J : JudgeCall ds cs work r work′) where
-  pub judge-accepts : (r ≡ pos 0) ↔ (judge.judge-answer ds cs (length work) ≡ verdict.Yes)
+module _ {ds cs work list work′ list′ : List ℕ} {r : ℤ} (J : JudgeCall ds cs work list r work′ list′) where
+  pub judge-accepts : (r ≡ pos 0) ↔ (judge.judge-answer ds cs (length work) (length list) ≡ verdict.Yes)
   judge-accepts = (
-    λ e. yes-number (judge.judge-answer ds cs (length work)) (judge-gives (judge.judge-refusal ds cs (length work)) (judged (design ds) (converter cs))) (sym (J .number) ∙ e),
+    λ e. yes-number (judge.judge-answer ds cs (length work) (length list)) (judge-gives (judge.judge-refusal ds cs (length work) (length list)) (judged (design ds) (converter cs))) (sym (J .number) ∙ e),
     λ e. J .number ∙ ap judge-code e,
   )
 
-  pub judge-declines : (k : ℕ) → 0 < k → (r ≡ refusal-code k) ↔ (judge.judge-answer ds cs (length work) ≡ verdict.Refused k)
-  judge-declines k h = (λ e. no-number (judge.judge-answer ds cs (length work)) k h (sym (J .number) ∙ e), λ e. J .number ∙ ap judge-code e)
+  pub judge-declines : (k : ℕ) → 0 < k → (r ≡ refusal-code k) ↔ (judge.judge-answer ds cs (length work) (length list) ≡ verdict.Refused k)
+  judge-declines k h = (λ e. no-number (judge.judge-answer ds cs (length work) (length list)) k h (sym (J .number) ∙ e), λ e. J .number ∙ ap judge-code e)
 
 -- ---- the tick
 done-number : (a : Answer) → (a ≡ tick.Refused 0 → ⊥) → tick-code a ≡ pos 0 → a ≡ tick.Done

@@ -1,4 +1,4 @@
--- What a number means to a caller in C, for every input and from the call's promise alone (`Calls`): when the judge's is 0, -14 or -15; when the search's is -16,
+-- What a number means to a caller in C, for every input and from the call's promise alone (`Calls`): when the judge's is 0, -14 or -15, and what its list then has; when the search's is -16,
 -- and what stands in the table where it is a count; when the tick's is 0; when the writer's, the block reader's and that of `gorzhani_positions` are counts; when that of
 -- `gorzhani_ranges` is 0, and what then stands at the front of the result; when that of `gorzhani_rules` is a count, and what its blocks then say; and how much a search is lent that no refusal comes before its decision.
 use mathlib.Core.Path.{_≡_, refl, sym, ap, _∙_}
@@ -9,14 +9,15 @@ use Prim.Native.Nat.{ℕ, _*_, _≤_, _<_}
 use native.Mathlib.Omega.{arith}
 use borrow.Author.Tests.{le-leb}
 use lib.IntN.{ℤ, pos}
-use lib.ListN.{length, take, getD}
+use lib.ListN.{length, take, drop, getD}
 use Rattle.model.specs.Actl.{System, Holds}
-use Rattle.model.specs.Formulas.{formula}
+use Rattle.model.specs.Formulas.{truth, formula}
 use Rattle.model.specs.Events.{Event}
 use Rattle.model.specs.Converters.{Matched}
 use Rattle.model.specs.Designs.{Works, NoneWorks}
 use Rattle.model.specs.Positions.{positions}
 use Rattle.model.specs.Ranges.{Takes, TakesUnder, entered}
+use Rattle.model.specs.Waits.{WaitIs}
 use Rattle.model.proofs.Judged.{FailsRule}
 use Rattle.files.specs.declared.answers.Written.the-variants as written
 use Rattle.files.specs.declared.answers.Read.the-variants as read
@@ -33,7 +34,7 @@ use Rattle.search.specs.Search.{search-refusal, Finding, declined, none, found,
 use Rattle.search.proofs.Answers.{FoundIn, none-exactly, found-in}
 use Rattle.search.proofs.Refused as refused
 use Rattle.judge.specs.Judge.{judge-refusal, judge-answer, Judges}
-use Rattle.judge.proofs.Promise.{says-yes, says-unmatched, says-violated}
+use Rattle.judge.proofs.Promise.{says-yes, says-unmatched, says-violated, list-kept, list-behind, wait-right}
 use Rattle.runner.specs.declared.Runner.{Runner}
 use Rattle.runner.specs.declared.Answer.the-variants.{Done, Refused}
 use Rattle.runner.specs.Ticks.{ticked}
@@ -55,22 +56,33 @@ use Rattle.gorzhani.proofs.Apart.{counts-exactly, refuses-exactly, sear
 use Rattle.gorzhani.proofs.Positions.{taken, some-position, number-taken, number-refused}
 
 -- ---- the judge
-module _ {ds cs work work′ : List ℕ} {r : ℤ} (J : JudgeCall ds cs work r work′) where
+module _ {ds cs work list work′ list′ : List ℕ} {r : ℤ} (J : JudgeCall ds cs work list r work′ list′) where
   -- what the judge itself promises
-  judges : Judges ds cs work (judge-answer ds cs (length work)) work′
-  judges = record { answers = refl; leaves = J .leaves-work }
+  judges : Judges ds cs work list (judge-answer ds cs (length work) (length list)) work′ list′
+  judges = record { answers = refl; leaves-work = J .leaves-work; leaves-list = J .leaves-list }
 
   -- 0: nothing is refused, and the converter works
-  pub judge-yes : (r ≡ pos 0) ↔ ((judge-refusal ds cs (length work) ≡ 0) × Works (design ds) (converter cs))
-  judge-yes = Iff·trans (judge-accepts J) (says-yes ds cs work work′ _ judges)
+  pub judge-yes : (r ≡ pos 0) ↔ ((judge-refusal ds cs (length work) (length list) ≡ 0) × Works (design ds) (converter cs))
+  judge-yes = Iff·trans (judge-accepts J) (says-yes ds cs work list work′ list′ _ judges)
 
   -- -14: it isn't matched
-  pub judge-unmatched : (r ≡ refusal-code 14) ↔ ((judge-refusal ds cs (length work) ≡ 0) × (Matched (design ds .sides) (converter cs) → ⊥))
-  judge-unmatched = Iff·trans (judge-declines J 14 (omega arith)) (says-unmatched ds cs work work′ _ judges)
+  pub judge-unmatched : (r ≡ refusal-code 14) ↔ ((judge-refusal ds cs (length work) (length list) ≡ 0) × (Matched (design ds .sides) (converter cs) → ⊥))
+  judge-unmatched = Iff·trans (judge-declines J 14 (omega arith)) (says-unmatched ds cs work list work′ list′ _ judges)
 
   -- -15: it is matched, and fails a rule
-  pub judge-violated : (r ≡ refusal-code 15) ↔ ((judge-refusal ds cs (length work) ≡ 0) × (Matched (design ds .sides) (converter cs) × FailsRule (design ds) (converter cs)))
-  judge-violated = Iff·trans (judge-declines J 15 (omega arith)) (says-violated ds cs work work′ _ judges)
+  pub judge-violated : (r ≡ refusal-code 15) ↔ ((judge-refusal ds cs (length work) (length list) ≡ 0) × (Matched (design ds .sides) (converter cs) × FailsRule (design ds) (converter cs)))
+  judge-violated = Iff·trans (judge-declines J 15 (omega arith)) (says-violated ds cs work list work′ list′ _ judges)
+
+  -- after a 0 the number at i is the wait of rule i, and those behind the rules are as they were
+  pub judge-waits : r ≡ pos 0 → ((i : ℕ) → i < length (design ds .rules) → WaitIs (design ds) (converter cs) (getD (design ds .forms) (getD (design ds .rules) i 0) truth) (getD list′ i 0))
+      × (drop (length (design ds .rules)) list′ ≡ drop (length (design ds .rules)) list)
+  judge-waits e =
+      let yes = judge-accepts J .0 e in
+      (wait-right ds cs work list work′ list′ _ judges yes, list-behind ds cs work list work′ list′ _ judges yes)
+
+  -- after any other number all are
+  pub judge-keeps : (r ≡ pos 0 → ⊥) → list′ ≡ list
+  judge-keeps n = list-kept ds cs work list work′ list′ _ judges (λ yes. n (judge-accepts J .1 yes))
 
 -- ---- the search
 module _ {ds table work table′ work′ : List ℕ} {r : ℤ} (S : SearchCall ds table work r table′ work′) where

@@ -31,8 +31,8 @@ module _ {r : ℤ} where
         leaves-work = p .leaves-work;
       }
 
-  pub judge-promised : {ds cs work work′ : List ℕ} {a : Verdict} → Judges ds cs work a work′ → r ≡ judge-code a → JudgeCall ds cs work r work′
-  judge-promised p e = record { number = e ∙ ap judge-code (p .answers); leaves-work = p .leaves }
+  pub judge-promised : {ds cs work list work′ list′ : List ℕ} {a : Verdict} → Judges ds cs work list a work′ list′ → r ≡ judge-code a → JudgeCall ds cs work list r work′ list′
+  judge-promised p e = record { number = e ∙ ap judge-code (p .answers); leaves-work = p .leaves-work; leaves-list = p .leaves-list }
 
   pub write-promised : {cs blocks blocks′ : List ℕ} {a : Written} → Writes cs blocks blocks′ a → r ≡ write-code a → WriteCall cs blocks r blocks′
   write-promised p e = record { number = e ∙ ap write-code (p .answers); leaves-blocks = p .leaves }

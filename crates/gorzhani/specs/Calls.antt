@@ -16,7 +16,7 @@ use Rattle.files.specs.FileRefusals.{write-refusal, read-refusal}
 use Rattle.refusals.specs.Refusals.{left-by}
 use Rattle.files.specs.Answers.{write-answer, read-answer}
 use Rattle.search.specs.Search.{search-refusal, Finding, answer-of, table-of, work-of}
-use Rattle.judge.specs.Judge.{judge-answer, judge-work}
+use Rattle.judge.specs.Judge.{judge-answer, judge-work, judge-list}
 use Rattle.runner.specs.declared.Runner.{Runner}
 use Rattle.runner.specs.Ticks.{ticked}
 use Rattle.ranges.specs.Ranges.{ranges-refusal, ranges-answer, ranged-design}
@@ -40,11 +40,13 @@ pub record SearchCall (ds table work : List ℕ) (r : ℤ) (table′ work′ : L
   pub leaves-table : table′ ≡ table-of finding table
   pub leaves-work : work′ ≡ work-of (search-refusal ds (length table) (length work)) (design ds) work
 
--- ---- gorzhani_judge: a design ds, a converter cs; the work before, and after
-pub record JudgeCall (ds cs work : List ℕ) (r : ℤ) (work′ : List ℕ) : Type 0 where
+-- ---- gorzhani_judge: a design ds, a converter cs; the work and the list of waits before, and after
+pub record JudgeCall (ds cs work list : List ℕ) (r : ℤ) (work′ list′ : List ℕ) : Type 0 where
   -- 0 for a yes, or the refusal
-  pub number : r ≡ judge-code (judge-answer ds cs (length work))
-  pub leaves-work : work′ ≡ judge-work ds cs work
+  pub number : r ≡ judge-code (judge-answer ds cs (length work) (length list))
+  pub leaves-work : work′ ≡ judge-work ds cs work (length list)
+  -- after a yes the waits of the rules stand at its front; after any other answer it is as it was
+  pub leaves-list : list′ ≡ judge-list ds cs (length work) list
 
 -- ---- gorzhani_write: a converter cs; the bytes lent for its blocks before, and after
 pub record WriteCall (cs blocks : List ℕ) (r : ℤ) (blocks′ : List ℕ) : Type 0 where

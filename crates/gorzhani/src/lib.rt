@@ -72,12 +72,17 @@ pub extern "C" fn gorzhani_search(design: &[u8], table: &mut [u8], work: &mut [u
     }
 }
 
-// The judge: 0 for a yes.
+// The judge: 0 for a yes, with the waits of the rules.
 #[no_mangle]
-pub extern "C" fn gorzhani_judge(design: &[u8], converter: &[u8], work: &mut [u8]) -> i32
-    ensures { λ r. ⌜ JudgeCall (now (design .entry)) (now (converter .entry)) (now (work .entry)) r (now (work .exit)) ⌝ }
+pub extern "C" fn gorzhani_judge(
+    design: &[u8],
+    converter: &[u8],
+    work: &mut [u8],
+    waits: &mut [u32],
+) -> i32
+    ensures { λ r. ⌜ JudgeCall (now (design .entry)) (now (converter .entry)) (now (work .entry)) (now (waits .entry)) r (now (work .exit)) (now (waits .exit)) ⌝ }
 {
-    let answer = judge::judge(design, converter, work);
+    let answer = judge::judge(design, converter, work, waits);
     match answer {
         Verdict::Yes => 0,
         Verdict::Refused(k) => refused(k),

@@ -12,10 +12,11 @@ use Rattle.model.specs.Sides.{Move, State, any-sent, kind}
 use Rattle.model.specs.Joined.{label-words, own-label, labelled}
 use Rattle.model.specs.Positions.{any, is-until, is-always, is-next-of, kept, one-if, count, kept-count, until-count, joint-count, positions}
 use Rattle.model.specs.Judged.{all, tally, same-list, same-events, with-move, with-moves, joint-moves, names?, once?, follows?, fulfils?, obeys?, matched?, until-by, always-for, Verdict, accepted, unmatched, violated, number, judged}
+use Rattle.model.specs.Waits.{first, waits as rule-waits}
 use Rattle.model.specs.Ranges.{counted-move, counted, counts, replaced, ranged}
 use Rattle.model.specs.Runs.{Runner, done, refused, fits, all-fit, first-fit, taken, ticked}
 use Rattle.model.specs.RowData.{minus}
-use Rattle.model.specs.Rows.{Row, well-formed, no-such-label, kept-are, positions-are, judge-says, keeps-rule, fails-rule, converter-for, none-for, tick-takes, tick-refused, ranged-is, Meaning, rows}
+use Rattle.model.specs.Rows.{Row, well-formed, no-such-label, kept-are, positions-are, judge-says, waits-are, keeps-rule, fails-rule, converter-for, none-for, tick-takes, tick-refused, ranged-is, Meaning, rows}
 use Rattle.model.proofs.Bools.{and-both}
 use Rattle.model.proofs.Lists.{all-in, any-in}
 use Rattle.model.proofs.SameEvent.{same-event-eq}
@@ -68,6 +69,7 @@ row-test (no-such-label D) = parts? D && not (props? D)
 row-test (kept-are D n) = well-formed? D && eqb (kept-count D) n
 row-test (positions-are D n) = well-formed? D && eqb (positions D) n
 row-test (judge-says D C v) = well-formed? D && eqb (number (judged D C)) (number v)
+row-test (waits-are D C ws) = well-formed? D && (eqb (number (judged D C)) (number accepted) && same-list eqb (rule-waits D C) ws)
 row-test (keeps-rule D C r) = well-formed? D && (matched? (D .sides) C && any (eqb r) (D .rules) && kept-at-start D C r)
 row-test (fails-rule D C r) = well-formed? D && (matched? (D .sides) C && any (eqb r) (D .rules) && not (kept-at-start D C r))
 row-test (converter-for D C) = well-formed? D && eqb (number (judged D C)) (number accepted)
@@ -85,6 +87,7 @@ unfolding row-test all any
     refutes lost show-at showing every-answer covers withheld never ways-all both-ways either-way
     leads stuck first-fit all-fit fits
     ranged replaced counts counted counted-move flatten same-state same-move
+    rule-waits first
 rows-pass = tt
 
 -- ---- a row that passes is true
@@ -146,6 +149,11 @@ row-means (no-such-label D) t =
 row-means (kept-are D n) t = let w = and-both (well-formed? D) (eqb (kept-count D) n) t in (formed D (w .0), eqb→eq (kept-count D) n (w .1))
 row-means (positions-are D n) t = let w = and-both (well-formed? D) (eqb (positions D) n) t in (formed D (w .0), eqb→eq (positions D) n (w .1))
 row-means (judge-says D C v) t = let w = and-both (well-formed? D) (eqb (number (judged D C)) (number v)) t in (formed D (w .0), same-answer (judged D C) v (w .1))
+row-means (waits-are D C ws) t =
+    let w = and-both (well-formed? D) (eqb (number (judged D C)) (number accepted) && same-list eqb (rule-waits D C) ws) t in
+    let x = and-both (eqb (number (judged D C)) (number accepted)) (same-list eqb (rule-waits D C) ws) (w .1) in
+    let wf = formed D (w .0) in
+    (wf, judged-accepts D wf C .0 (same-answer (judged D C) accepted (x .0)), same-list-eq eqb eqb→eq (rule-waits D C) ws (x .1))
 row-means (keeps-rule D C r) t =
     let w = and-both (well-formed? D) (matched? (D .sides) C && any (eqb r) (D .rules) && kept-at-start D C r) t in
     let wf = formed D (w .0) in

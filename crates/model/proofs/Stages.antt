@@ -12,10 +12,11 @@ use Rattle.model.specs.Sides.{Side}
 use Rattle.model.specs.Joined.{Names, labelled}
 use Rattle.model.specs.Formulas.{Form}
 use Rattle.model.specs.Judged.{Joint, joint-moves}
+use Rattle.model.specs.Waits.{first}
 use Rattle.model.proofs.Bools.{or-either, or-left, or-right, T-dec}
 use Rattle.model.proofs.Finite.{decide, decided, deciding, both?, not?, implies?, some?, each?, upto, in-upto, of-upto}
 use Rattle.model.proofs.Value.{value}
-use Rattle.model.proofs.Rounds.{Growing, steady, first, first-le, first-holds}
+use Rattle.model.proofs.Rounds.{Growing, steady, first-le, first-holds}
 use Rattle.model.proofs.Joint.{AllRegular, targets-there}
 use Rattle.model.proofs.JointMoves.{joint-listed, listed-joint}
 use Rattle.model.proofs.Untils.{turn, passes-one, Untils, turn-lt}

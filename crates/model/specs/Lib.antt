@@ -9,6 +9,7 @@ pub mod Formulas
 pub mod Designs
 pub mod Positions
 pub mod Judged
+pub mod Waits
 pub mod Resting
 pub mod Ranges
 pub mod Runs

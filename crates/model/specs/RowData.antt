@@ -118,6 +118,10 @@ r-out-comes = truth ∷ prop r-out ∷ au 0 1 ∷ []
 abbrev pub H-until : Design
 H-until = design handshake r-out-comes (2 ∷ [])
 
+-- A(true U 0) on H: it holds at the start
+abbrev pub H-idle : Design
+H-idle = design handshake (truth ∷ prop idle₁ ∷ au 0 1 ∷ []) (2 ∷ [])
+
 -- ---- one ticking state
 abbrev ticking : Side
 ticking = labelling 0 (on tick 0 ∷ []) ∷ []
@@ -126,6 +130,10 @@ ticking = labelling 0 (on tick 0 ∷ []) ∷ []
 abbrev pub turns : Design
 turns =
     design ((labelling 1 (on tick 1 ∷ []) ∷ labelling 2 (on tick 0 ∷ []) ∷ []) ∷ ticking ∷ []) (truth ∷ prop 0 ∷ prop 1 ∷ au 0 1 ∷ au 0 2 ∷ conj 3 4 ∷ ag 5 ∷ []) (6 ∷ [])
+
+-- the same with the two untils as rules of their own, before it
+abbrev pub turns-apart : Design
+turns-apart = record { sides = turns .sides; forms = turns .forms; rules = 3 ∷ 4 ∷ 6 ∷ [] }
 
 abbrev pub turns-converter : Converter
 turns-converter = at 0 0 (pair tick tick 1 ∷ []) ∷ at 1 0 (pair tick tick 0 ∷ []) ∷ []
@@ -283,18 +291,38 @@ between s l g = record { state = s; least = l; greatest = up-to g }
 abbrev pub at-least : ℕ → ℕ → Range
 at-least s l = record { state = s; least = l; greatest = none }
 
--- H with s0 at 0 to 2, and A(true U 1)
+-- H with s0 at 0 to n, and A(true U 1)
+abbrev H-by : ℕ → Design
+H-by n = design (ranged handshake-kernel (between 0 0 n ∷ []) ∷ handshake-host ∷ []) r-out-comes (2 ∷ [])
+
 abbrev pub H-in-time : Design
-H-in-time = design (ranged handshake-kernel (between 0 0 2 ∷ []) ∷ handshake-host ∷ []) r-out-comes (2 ∷ [])
+H-in-time = H-by 2
+
+-- the transitions of s1 beside t0
+abbrev sent : List Edge
+sent = pair tick tick 1 ∷ pair (plus 2) tick 0 ∷ []
 
 -- s0, s1 and counts 1 and 2 of s0, beside t0, which is never told
 abbrev pub sent-in-time : Converter
 sent-in-time =
     at 0 0 (pair tick tick 2 ∷ pair (plus 1) tick 1 ∷ [])
-    ∷ at 1 0 (pair tick tick 1 ∷ pair (plus 2) tick 0 ∷ [])
+    ∷ at 1 0 sent
     ∷ at 2 0 (pair tick tick 3 ∷ pair (plus 1) tick 1 ∷ [])
     ∷ at 3 0 (pair (plus 1) tick 1 ∷ [])
     ∷ []
+
+-- the same with s0 at 0 to 0 and at 0 to 1: there is no count 2 of s0, and no count 1
+abbrev pub H-by-one : Design
+H-by-one = H-by 1
+
+abbrev pub H-at-once : Design
+H-at-once = H-by 0
+
+abbrev pub sent-at-once : Converter
+sent-at-once = at 0 0 (pair (plus 1) tick 1 ∷ []) ∷ at 1 0 sent ∷ []
+
+abbrev pub sent-by-one : Converter
+sent-by-one = at 0 0 (pair tick tick 2 ∷ pair (plus 1) tick 1 ∷ []) ∷ at 1 0 sent ∷ at 2 0 (pair (plus 1) tick 1 ∷ []) ∷ []
 
 -- s1 as it is; s0 where it ticks to the state t, where it sends, and where it does either
 abbrev s1 : State

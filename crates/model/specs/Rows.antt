@@ -10,9 +10,10 @@ use Rattle.model.specs.Formulas.{Lower, Propositions}
 use Rattle.model.specs.Designs.{Design, WellFormed, Keeps, Works, NoneWorks}
 use Rattle.model.specs.Positions.{kept-count, positions}
 use Rattle.model.specs.Judged.{Verdict, accepted, unmatched, violated, judged}
+use Rattle.model.specs.Waits.{no-wait, waits}
 use Rattle.model.specs.Ranges.{Range, ranged}
 use Rattle.model.specs.Runs.{done, refused, ticked}
-use Rattle.model.specs.RowData.{plus, minus, H, H-printed, H-mended, H-until, F, F-deaf, F-third, turns, turns-converter, fork-either, fork-two, fork-both, fork-first, fork-open, lock-then-menu, menu-now, lock-next, in-step, naming, viewer-alone, viewer-prompt, viewer-waiting, picture-at-once, picture-in-time, four-choices, one-for-each, one-left-out, one-too-many, three-senders, all-eight, seven-of-eight, between, at-least, H-in-time, sent-in-time, handshake-kernel, sends-at-once, third-to-ninth, s1-then-s0, sending-back, fifteen-or-more}
+use Rattle.model.specs.RowData.{plus, minus, H, H-printed, H-mended, H-until, H-idle, F, F-deaf, F-third, turns, turns-apart, turns-converter, fork-either, fork-two, fork-both, fork-first, fork-open, lock-then-menu, menu-now, lock-next, in-step, naming, viewer-alone, viewer-prompt, viewer-waiting, picture-at-once, picture-in-time, four-choices, one-for-each, one-left-out, one-too-many, three-senders, all-eight, seven-of-eight, between, at-least, H-at-once, H-by-one, H-in-time, sent-at-once, sent-by-one, sent-in-time, handshake-kernel, sends-at-once, third-to-ninth, s1-then-s0, sending-back, fifteen-or-more}
 
 pub data Row : Type 0 where
   -- a design that none of 5 to 7 refuses
@@ -25,6 +26,8 @@ pub data Row : Type 0 where
   positions-are : Design → ℕ → Row
   -- what the judge answers
   judge-says : Design → Converter → Verdict → Row
+  -- the waits of the rules of a design under a converter that works
+  waits-are : Design → Converter → List ℕ → Row
   -- a rule of the design that a matched converter keeps, or fails
   keeps-rule fails-rule : Design → Converter → ℕ → Row
   -- a converter that the search may find
@@ -47,6 +50,7 @@ Meaning (no-such-label D) =
 Meaning (kept-are D n) = WellFormed D × (kept-count D ≡ n)
 Meaning (positions-are D n) = WellFormed D × (positions D ≡ n)
 Meaning (judge-says D C v) = WellFormed D × (judged D C ≡ v)
+Meaning (waits-are D C ws) = WellFormed D × Works D C × (waits D C ≡ ws)
 Meaning (keeps-rule D C r) = WellFormed D × Matched (D .sides) C × In r (D .rules) × Keeps D C r
 Meaning (fails-rule D C r) = WellFormed D × Matched (D .sides) C × In r (D .rules) × (Keeps D C r → ⊥)
 Meaning (converter-for D C) = WellFormed D × Works D C
@@ -107,4 +111,10 @@ rows =
     ∷ ranged-is handshake-kernel (between 1 1 2 ∷ between 0 0 1 ∷ []) s1-then-s0
     -- one state that sends back to itself, at 15 or more
     ∷ ranged-is sending-back (at-least 0 15 ∷ []) fifteen-or-more
+    -- F, A(true U 0): it waits 0; F under the four rules, of which none is an until: no waits
+    ∷ waits-are H-idle F (0 ∷ []) ∷ waits-are H-mended F (no-wait ∷ no-wait ∷ no-wait ∷ no-wait ∷ [])
+    -- H with s0 at 0 to 0, at 0 to 1 and at 0 to 2, A(true U 1): it waits 1, 2 and 3
+    ∷ waits-are H-at-once sent-at-once (1 ∷ []) ∷ waits-are H-by-one sent-by-one (2 ∷ []) ∷ waits-are H-in-time sent-in-time (3 ∷ [])
+    -- two states ticking in turn; A(true U 0), A(true U 1) and the always over both: 0, 1 and none
+    ∷ waits-are turns-apart turns-converter (0 ∷ 1 ∷ no-wait ∷ [])
     ∷ []

@@ -10,7 +10,8 @@ use row_parts::tables;
 fn answer(d: &[u8], converter: &[u8], lent: &mut [u8], room: usize) -> u64
     requires { ⌜ room ≤ length (now lent) ⌝ }
 {
-    let v = judge::judge(d, converter, &mut lent[0..room]);
+    let mut waits = [7u32; 16];
+    let v = judge::judge(d, converter, &mut lent[0..room], &mut waits);
     match v {
         judge::Verdict::Yes => 0,
         judge::Verdict::Refused(k) => k as u64,

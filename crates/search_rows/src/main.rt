@@ -34,7 +34,8 @@ fn positions(d: &[u8]) {
 
 // What the judge answers of a converter.
 fn judged(d: &[u8], converter: &[u8], work: &mut [u8]) {
-    let v = judge::judge(d, converter, work);
+    let mut waits = [7u32; 16];
+    let v = judge::judge(d, converter, work, &mut waits);
     match v {
         judge::Verdict::Yes => lines::line(b"  judged", 0),
         judge::Verdict::Refused(k) => lines::line(b"  judged", k as u64),

@@ -11,7 +11,8 @@ use row_parts::tables;
 
 // What the judge answers of a converter.
 fn judged(words: &[u8], d: &[u8], converter: &[u8], work: &mut [u8]) {
-    let v = judge::judge(d, converter, work);
+    let mut waits = [7u32; 16];
+    let v = judge::judge(d, converter, work, &mut waits);
     match v {
         judge::Verdict::Yes => lines::line(words, 0),
         judge::Verdict::Refused(k) => lines::line(words, k as u64),

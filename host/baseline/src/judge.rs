@@ -1,5 +1,5 @@
 //! The judge: matched, then for each formula the records at which it holds,
-//! as one bit set.
+//! as one bit set, and how long an until waits at the start.
 
 use std::array::from_fn;
 
@@ -8,14 +8,27 @@ use crate::demand;
 use crate::design::{Design, State, DELAYED, NOWHERE, SIDES};
 use crate::joint::{duty_of, joint_count, joint_state, label_words, show_of, stacked, Duty};
 
-/// Judges a converter: yes, or 1 to 8, 10, 11 and 13 to 15.
-pub fn judge(design: &[u8], converter: &[u8], work: &mut [u8]) -> Result<(), u8> {
+/// The wait of a rule that is no until.
+const NO_WAIT: u32 = u32::MAX;
+
+/// Judges a converter: yes, or 1 to 8 and 10 to 15. After a yes there is a wait for each rule.
+pub fn judge(
+    design: &[u8],
+    converter: &[u8],
+    work: &mut [u8],
+    waits: &mut [u32],
+) -> Result<(), u8> {
     let design = Design::read(design)?;
     let records = counted_right(converter)?;
+    demand(waits.len() >= design.rules.len(), 12)?;
     demand(work.len() >= 16 * records, 13)?;
     work[..16 * records].fill(0);
     demand(matched(&design, converter), 14)?;
-    demand(keeps_rules(&design, converter), 15)
+    let formulas = waits_of_formulas(&design, converter).ok_or(15)?;
+    for (wait, &rule) in waits.iter_mut().zip(&design.rules) {
+        *wait = formulas[usize::from(rule)];
+    }
+    Ok(())
 }
 
 /// For each state of a side and each event, the target.
@@ -113,10 +126,12 @@ fn has(set: &[u64], record: usize) -> bool {
     set[record / 64] >> (record % 64) & 1 == 1
 }
 
-/// Whether every rule holds at record 0 of a matched converter.
-fn keeps_rules(design: &Design, converter: &[u8]) -> bool {
+/// If every rule holds at record 0 of a matched converter: for each formula, in how many ticks
+/// every path from there has reached what it waits for, where it is an until that holds.
+fn waits_of_formulas(design: &Design, converter: &[u8]) -> Option<Vec<u32>> {
+    let mut waits = vec![NO_WAIT; design.formulas.len()];
     if design.rules.is_empty() {
-        return true;
+        return Some(waits);
     }
     let records = converter.len() / RECORD;
     let words = records.div_ceil(64);
@@ -126,7 +141,7 @@ fn keeps_rules(design: &Design, converter: &[u8]) -> bool {
         .map(|record| stacked(label_words(joint_state(design, names_of(record)))))
         .collect();
     let mut truth: Vec<u64> = vec![0; words * design.formulas.len()];
-    let mut waits: Vec<u8> = Vec::new();
+    let mut left: Vec<u8> = Vec::new();
     let mut fresh: Vec<u16> = Vec::new();
     for (number, &[kind, a, b]) in design.formulas.iter().enumerate() {
         let (lower, set) = truth.split_at_mut(words * number);
@@ -160,22 +175,32 @@ fn keeps_rules(design: &Design, converter: &[u8]) -> bool {
                 let a_set = a_set();
                 set.copy_from_slice(b_set());
                 fresh.clear();
-                waits.clear();
+                left.clear();
                 for record in 0..records {
-                    waits.push(graph.next(record).len() as u8);
+                    left.push(graph.next(record).len() as u8);
                     if has(set, record) {
                         fresh.push(record as u16);
                     }
                 }
-                while let Some(record) = fresh.pop() {
-                    for &before in graph.before(usize::from(record)) {
-                        let at = usize::from(before);
-                        waits[at] -= 1;
-                        if waits[at] == 0 && has(a_set, at) && !has(set, at) {
-                            set[at / 64] |= 1 << (at % 64);
-                            fresh.push(before);
+                // Records with the same wait stand beside each other, the shorter waits first.
+                let (mut done, mut ticks) = (0, 0);
+                while done < fresh.len() {
+                    if waits[number] == NO_WAIT && has(set, 0) {
+                        waits[number] = ticks;
+                    }
+                    ticks += 1;
+                    let end = fresh.len();
+                    for place in done..end {
+                        for &before in graph.before(usize::from(fresh[place])) {
+                            let at = usize::from(before);
+                            left[at] -= 1;
+                            if left[at] == 0 && has(a_set, at) && !has(set, at) {
+                                set[at / 64] |= 1 << (at % 64);
+                                fresh.push(before);
+                            }
                         }
                     }
+                    done = end;
                 }
             }
             _ => {
@@ -194,5 +219,6 @@ fn keeps_rules(design: &Design, converter: &[u8]) -> bool {
             }
         }
     }
-    design.rules.iter().all(|&rule| truth[words * usize::from(rule)] & 1 == 1)
+    let holds = |&rule: &u8| truth[words * usize::from(rule)] & 1 == 1;
+    design.rules.iter().all(holds).then_some(waits)
 }

@@ -5,7 +5,7 @@
 //! - [`design`]: a design in flat arrays, read with every refusal.
 //! - `joint`, `joints`: the sides joined, and joint states by number.
 //! - [`converter`]: converter records, and converter files as blocks.
-//! - [`judge`](mod@judge): truth as one bit set over the records for each formula.
+//! - [`judge`](mod@judge): truth as one bit set over the records for each formula, and waits.
 //! - [`search`](mod@search): the game over bit sets of owed formulas.
 //! - [`same`]: the proved search's own computation, over the lent work.
 //! - [`tick`](mod@tick): one tick.

@@ -12,9 +12,10 @@ use checker::bytes::{
 };
 use checker::generate::{
     any_bytes, any_converter, any_design, any_ranges, any_text, block_file, damage, damage_text,
-    damaged_converter, design, every_name, flawed_list, loose_converter, ruled_design, script,
-    sound_text, text_at_limits, token_text, waiting_design, Random, Shape,
+    damaged_converter, design, every_name, flawed_list, loose_converter, matched_converter,
+    ruled_design, script, sound_text, text_at_limits, token_text, waiting_design, Random, Shape,
 };
+use checker::judge::failing_rules;
 use checker::ranges::list_bytes;
 use typed::{at_the_limits, long_texts, orders, refused_with_19, refused_with_20, rows};
 
@@ -63,9 +64,31 @@ fn found_agrees(bytes: &[u8], table: &[u8], records: usize) {
     let size = positions(&read_design(bytes).unwrap()) as usize;
     assert!((1..=size).contains(&records));
     let found = &table[..RECORD_BYTES * records];
-    let judged = checker::judge(bytes, found, &mut vec![0; 16 * records]);
-    assert_eq!(judged, Ok(()), "{:?}", read_design(bytes));
+    let judged = judge_agrees(bytes, found, 16 * records, 16);
+    assert!(judged.is_ok(), "{judged:?} {:?}", read_design(bytes));
     assert!(table[RECORD_BYTES * records..] == pattern(table.len())[RECORD_BYTES * records..]);
+}
+
+/// Judges by both. The waits that were written, or the number.
+fn judge_agrees(
+    bytes: &[u8],
+    converter: &[u8],
+    work_length: usize,
+    waits_length: usize,
+) -> Result<Vec<u32>, u8> {
+    let (mut work, mut other_work) = (pattern(work_length), pattern(work_length));
+    // No wait is so long, but for that of a rule that is no until.
+    let first = |at: usize| 1_000_000_000 + at as u32;
+    let mut waits: Vec<u32> = (0..waits_length).map(first).collect();
+    let mut other_waits = waits.clone();
+    let answer = baseline::judge(bytes, converter, &mut work, &mut waits);
+    let other = checker::judge(bytes, converter, &mut other_work, &mut other_waits);
+    assert_eq!(answer, other);
+    assert!(work == other_work);
+    assert_eq!(waits, other_waits, "{converter:?} {:?}", read_design(bytes));
+    answer?;
+    waits.truncate(read_design(bytes)?.rules.len());
+    Ok(waits)
 }
 
 #[test]
@@ -180,17 +203,57 @@ fn judgements() {
         if round % 16 == 0 {
             damage(&mut random, &mut bytes);
         }
-        let length = about(&mut random, 16 * (converter.len() / RECORD_BYTES));
-        let (mut work, mut other_work) = (pattern(length), pattern(length));
-        let answer = baseline::judge(&bytes, &converter, &mut work);
-        let other = checker::judge(&bytes, &converter, &mut other_work);
-        assert_eq!(answer, other);
-        assert!(work == other_work);
+        let work_length = about(&mut random, 16 * (converter.len() / RECORD_BYTES));
+        let waits_length = about(&mut random, made.rules.len());
+        let answer = judge_agrees(&bytes, &converter, work_length, waits_length);
         answers[usize::from(answer.err().unwrap_or(0))] += 1;
     }
-    for number in [0, 1, 2, 5, 7, 8, 10, 11, 13, 14, 15] {
+    for number in [0, 1, 2, 5, 7, 8, 10, 11, 12, 13, 14, 15] {
         assert!(answers[number] > 20, "{number}: {answers:?}");
     }
+}
+
+/// Untils that hold under a matched converter, beside other rules: those that are met at the start
+/// and those that aren't.
+#[test]
+fn waits() {
+    let mut random = Random::new(208);
+    let (mut none, mut at_once, mut later) = (0, 0, [0; 4]);
+    for _ in 0..12_000 {
+        let mut made = any_design(&mut random);
+        made.formulas.truncate(31);
+        let lower = made.formulas.len();
+        made.formulas.push(Formula::True);
+        for b in 0..lower {
+            let a = if random.once_in(2) { lower } else { random.below(lower) };
+            made.formulas.push(Formula::Until(a, b));
+        }
+        let spare = random.below(40);
+        let converter = matched_converter(&mut random, &made, spare);
+        made.rules = (0..made.formulas.len() as u8).collect();
+        let failing = failing_rules(&made, &converter);
+        // Every until that isn't met at the start, and some of the other rules.
+        made.rules.retain(|&rule| {
+            let rule = usize::from(rule);
+            let waits = rule > lower && failing.contains(&(rule - lower - 1));
+            !failing.contains(&rule) && (waits || random.once_in(8))
+        });
+        made.rules.truncate(16);
+        let bytes = converter_bytes(&converter);
+        let judged = judge_agrees(&made.to_bytes(), &bytes, 16 * converter.len(), 16);
+        for wait in judged.expect("the rules hold") {
+            match wait {
+                u32::MAX => none += 1,
+                0 => at_once += 1,
+                wait => later[wait.min(4) as usize - 1] += 1,
+            }
+        }
+    }
+    println!(
+        "{none} rules don't wait, {at_once} are met at once, 1, 2, 3 ticks or more: {later:?}"
+    );
+    assert!(none > 1_000 && at_once > 1_000, "{none} {at_once}");
+    assert!(later.iter().all(|&waits| waits > 50), "{later:?}");
 }
 
 #[test]

@@ -16,7 +16,7 @@ use std::hint::black_box;
 use std::time::{Duration, Instant};
 
 use checker::bytes::{positions, Design};
-use gorzhani::{Refused, BLOCK, BLOCK_RECORDS, CELL, ENTRY, RECORD, RULE_BLOCKS};
+use gorzhani::{Refused, BLOCK, BLOCK_RECORDS, CELL, ENTRY, MOST_RULES, RECORD, RULE_BLOCKS};
 use inputs::{Judged, Ranged, Typed};
 
 /// A larger size is left out once a call took this long.
@@ -202,8 +202,9 @@ fn search(extent: Extent, designs: &[Design]) -> [Duration; 3] {
         assert_eq!(library, same, "the steps are the same");
         assert!(table == same_table && work == same_work, "the steps are the same");
         if let Ok(records) = library {
-            let mut space = vec![0; CELL * records];
-            let judged = baseline::judge(design, &table[..RECORD * records], &mut space);
+            let (mut space, mut waits) = (vec![0; CELL * records], [0; MOST_RULES]);
+            let found = &table[..RECORD * records];
+            let judged = baseline::judge(design, found, &mut space, &mut waits);
             assert_eq!(judged, Ok(()), "a converter found keeps the rules");
         }
         let fast = baseline::search(design, &mut table, &mut work);
@@ -236,17 +237,21 @@ fn number(Refused(number): Refused) -> u8 {
 }
 
 fn judge(extent: Extent, made: &Judged) -> [Duration; 2] {
-    let mut work = vec![0; CELL * (made.converter.len() / RECORD)];
+    let Judged { design, converter } = made;
+    let mut work = vec![0; CELL * (converter.len() / RECORD)];
     let mut other_work = work.clone();
-    let library = gorzhani::judge(&made.design, &made.converter, &mut work);
-    let baseline = baseline::judge(&made.design, &made.converter, &mut work);
+    let (mut waits, mut other_waits) = ([0; MOST_RULES], [0; MOST_RULES]);
+    let library = gorzhani::judge(design, converter, &mut work, &mut waits);
+    let baseline = baseline::judge(design, converter, &mut other_work, &mut other_waits);
     assert_eq!(library.map_err(number), baseline, "the verdicts agree");
+    assert_eq!(waits, other_waits, "the waits agree");
     extent.shortest([
         &mut || {
-            let _ = black_box(gorzhani::judge(&made.design, &made.converter, &mut work));
+            let _ = black_box(gorzhani::judge(design, converter, &mut work, &mut waits));
         },
         &mut || {
-            let _ = black_box(baseline::judge(&made.design, &made.converter, &mut other_work));
+            let _ =
+                black_box(baseline::judge(design, converter, &mut other_work, &mut other_waits));
         },
     ])
 }

@@ -10,6 +10,7 @@
 //!   converter may enable.
 //! - [`ctl`]: the states in which each formula holds.
 //! - [`judge`](mod@judge): is a converter matched, and does it keep the rules.
+//! - [`waits`]: how long the rules that are untils wait.
 //! - [`search`](mod@search): is there a converter at all, and if so, one of them.
 //! - [`none`]: is there no converter at all, by another method than the search.
 //! - [`brute`]: every converter of up to three records, tried in turn.
@@ -38,6 +39,7 @@ pub mod refusal;
 pub mod rules;
 pub mod search;
 pub mod tick;
+pub mod waits;
 
 pub use judge::judge;
 pub use ranges::ranges;

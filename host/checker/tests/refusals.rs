@@ -14,8 +14,8 @@ use checker::bytes::{
 use checker::generate::{loose_converter, Random};
 use checker::tick::Runner;
 use samples::{
-    figure_five, four_rules, handshake, judged, pattern, record, ruled_handshake, state, state_at,
-    with_faults, BEYOND,
+    figure_five, four_rules, handshake, judged, judged_waits, pattern, record, ruled_handshake,
+    state, state_at, with_faults, BEYOND,
 };
 
 /// Bytes that get other values, and the number with which they are then refused.
@@ -558,7 +558,7 @@ fn design_with(wrong: &BTreeSet<u8>, blocks: usize) -> Vec<u8> {
 
 #[test]
 fn order_of_the_judge() {
-    for wrong in sets(&[1, 2, 3, 4, 5, 6, 7, 8, 10, 11, 13, 14, 15]) {
+    for wrong in sets(&[1, 2, 3, 4, 5, 6, 7, 8, 10, 11, 12, 13, 14, 15]) {
         let mut records = figure_five();
         if wrong.contains(&14) {
             records[0].links.pop();
@@ -570,11 +570,14 @@ fn order_of_the_judge() {
         if wrong.contains(&10) {
             converter.push(0);
         }
+        // The four rules are of kind 9.
+        let list = 4 - usize::from(wrong.contains(&12));
         let work = 48 - usize::from(wrong.contains(&13));
-        let expected = wrong.first().map_or(Ok(()), |&number| Err(number));
+        let expected = wrong.first().map_or(Ok(vec![u32::MAX; 4]), |&number| Err(number));
         for blocks in [4, 5] {
             let design = design_with(&wrong, blocks);
-            assert_eq!(judged(&design, &converter, work), expected, "{wrong:?} {blocks}");
+            let answer = judged_waits(&design, &converter, work, list);
+            assert_eq!(answer, expected, "{wrong:?} {blocks}");
         }
     }
 }

@@ -11,7 +11,7 @@ use checker::generate::{any_converter, any_design, progress_design, ruled_design
 use checker::search::find;
 use kept::kept;
 use samples::{
-    judged_well, pattern, reordered, reordered_converter, searched, state, BEYOND, ORDERS,
+    judged_well, numbers, pattern, reordered, reordered_converter, searched, state, BEYOND, ORDERS,
 };
 
 #[test]
@@ -95,10 +95,12 @@ fn four_blocks_and_five_say_the_same() {
 
         let converter = any_converter(&mut random, &design);
         let mut work = pattern(16 * (converter.len() / 52) + BEYOND);
-        let mut other_work = work.clone();
-        let judged = checker::judge(&four, &converter, &mut work);
-        assert_eq!(judged, checker::judge(&five, &converter, &mut other_work), "{design:?}");
-        assert_eq!(work, other_work, "{design:?}");
+        let mut waits = numbers(design.rules.len() + BEYOND);
+        let (mut other_work, mut other_waits) = (work.clone(), waits.clone());
+        let judged = checker::judge(&four, &converter, &mut work, &mut waits);
+        let again = checker::judge(&five, &converter, &mut other_work, &mut other_waits);
+        assert_eq!(judged, again, "{design:?}");
+        assert_eq!((work, waits), (other_work, other_waits), "{design:?}");
         *answers.entry(judged.err().unwrap_or(0)).or_default() += 1;
     }
     println!("{answers:?}");

@@ -62,7 +62,8 @@ const FORMS: [Form; 5] = [
 usage: gorzhani search [--write] [--out DIR] [--svg] [PAGE]
 
 Finds a converter for the design of a page, or learns that none of any size
-exists. Writes the rules, the verdict and the converter to standard output.
+exists. Writes the rules, the verdict, with how long rules wait, and the
+converter to standard output.
 
   --write    fill in the page's sections Verdict and Converter instead; of a
              page from standard input, write the page to standard output
@@ -83,9 +84,10 @@ or the call.
 usage: gorzhani judge [PAGE [FILE.converter]]
 
 Judges the converter in the page's section Converter, or that of a file: yes,
-if it is matched to the tables and keeps every rule on every path. Where it
-says no, it says why: the records that aren't matched, or the first rule that
-fails and the run that breaks it.
+if it is matched to the tables and keeps every rule on every path. With a yes
+it says of each rule A [ f U g ] or AF g how many ticks it waits at the most.
+Where it says no, it says why: the records that aren't matched, or the first
+rule that fails and the run that breaks it.
 
 Exit status: 0 yes, 1 no, 2 a mistake in the input or the call.
 ",

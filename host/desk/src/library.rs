@@ -1,6 +1,6 @@
 //! The calls of the proved library, each lent as much memory as it asks for.
 
-use gorzhani::{Refused, BLOCK, BLOCK_RECORDS, CELL, RECORD, RULE_BLOCKS};
+use gorzhani::{Refused, BLOCK, BLOCK_RECORDS, CELL, MOST_RULES, NO_WAIT, RECORD, RULE_BLOCKS};
 
 use crate::records::{from_bytes, to_bytes, Record};
 
@@ -12,9 +12,14 @@ pub fn search(design: &[u8]) -> Result<Vec<Record>, Refused> {
     Ok(from_bytes(&table[..RECORD * count]))
 }
 
-/// Judges a converter.
-pub fn judge(design: &[u8], records: &[Record]) -> Result<(), Refused> {
-    gorzhani::judge(design, &to_bytes(records), &mut vec![0; CELL * records.len()])
+/// Judges a converter. After a yes, how long each rule waits: [`NO_WAIT`] for one that isn't an until.
+pub fn judge(design: &[u8], records: &[Record]) -> Result<Vec<u32>, Refused> {
+    let mut waits = vec![NO_WAIT; MOST_RULES];
+    let work = &mut vec![0; CELL * records.len()];
+    gorzhani::judge(design, &to_bytes(records), work, &mut waits)?;
+    // What has a yes is a design, and its last block counts the rules.
+    waits.truncate(usize::from(design[design.len() - BLOCK + 1]));
+    Ok(waits)
 }
 
 /// The blocks of a converter file.

@@ -13,7 +13,7 @@ use crate::input::{nameless, File, Input};
 use crate::notes::notes;
 use crate::page::Page;
 use crate::records::Record;
-use crate::verdict::{converter, noted, rules, verdict, Outcome};
+use crate::verdict::{converter, noted, rules, verdict, waited, Outcome};
 use crate::{draw, explain, library, play, print, sizes, unmatched, why};
 
 /// Yes, or found.
@@ -162,8 +162,8 @@ fn search(call: &Call, colours: bool) -> Result<Answer, String> {
     let found = desk.searched()?;
     let outcome = match &found {
         Some(records) => {
-            library::judge(&design.bytes(), records).map_err(|refused| desk.refused(refused))?;
-            Outcome::Found(records)
+            let waits = library::judge(&design.bytes(), records);
+            Outcome::Found(records, waits.map_err(|refused| desk.refused(refused))?)
         }
         None => Outcome::None,
     };
@@ -184,7 +184,7 @@ fn search(call: &Call, colours: bool) -> Result<Answer, String> {
 /// The bodies of the sections Verdict and Converter, with notes, and with a picture if there is a file of one.
 fn bodies(design: &Design, outcome: &Outcome, picture: Option<&str>) -> (String, String) {
     let notes = match outcome {
-        Outcome::Found(records) | Outcome::Judged(records, Ok(())) => {
+        Outcome::Found(records, _) | Outcome::Judged(records, Ok(_)) => {
             noted(design, records, &notes(design, records))
         }
         _ => String::new(),
@@ -262,12 +262,15 @@ fn judge(call: &Call, colours: bool) -> Result<Answer, String> {
         return Err(format!("{}: no converter to judge: name its file{page}", desk.file.name));
     };
     let answer = library::judge(&desk.design.bytes(), &records);
-    let mut out = Outcome::Judged(&records, answer).sentence(&desk.design) + "\n";
+    let outcome = Outcome::Judged(&records, answer.clone());
+    let mut out = outcome.sentence(&desk.design) + "\n";
     let status = match answer {
-        Ok(()) => {
+        Ok(_) => {
             let notes = noted(&desk.design, &records, &notes(&desk.design, &records));
-            if !notes.is_empty() {
-                out += &format!("\n{notes}");
+            for part in [waited(&desk.design, &outcome), notes] {
+                if !part.is_empty() {
+                    out += &format!("\n{part}");
+                }
             }
             YES
         }
@@ -409,7 +412,7 @@ fn run(call: &Call, colours: bool) -> Result<Answer, String> {
         },
     };
     match library::judge(&design.bytes(), &records) {
-        Ok(()) => {}
+        Ok(_) => {}
         Err(Refused::RULE) => {
             say(&format!(
                 "{}: the judge says that some rule fails (15); it runs all the same",

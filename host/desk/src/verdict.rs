@@ -1,9 +1,10 @@
 //! The bodies of a page's sections Verdict and Converter.
 
-use gorzhani::Refused;
+use gorzhani::{Refused, NO_WAIT};
 
 use crate::columns::grouped;
 use crate::design::{Design, SIDE_LABELS, SIDE_NAMES};
+use crate::formulas::Formula;
 use crate::notes::Notes;
 use crate::print::{converter_table, item};
 use crate::records::Record;
@@ -11,12 +12,12 @@ use crate::sizes;
 
 /// What the library has answered.
 pub enum Outcome<'a> {
-    /// The search found this converter, and the judge says yes to it.
-    Found(&'a [Record]),
+    /// The search found this converter, and the judge says yes to it: so long its rules wait.
+    Found(&'a [Record], Vec<u32>),
     /// The search says that none exists.
     None,
-    /// The judge was asked about this converter.
-    Judged(&'a [Record], Result<(), Refused>),
+    /// The judge was asked about this converter, and told after a yes how long its rules wait.
+    Judged(&'a [Record], Result<Vec<u32>, Refused>),
     /// Nothing was asked.
     Unasked,
 }
@@ -25,8 +26,16 @@ impl Outcome<'_> {
     /// The converter that is spoken of.
     pub fn records(&self) -> Option<&[Record]> {
         match self {
-            Outcome::Found(records) | Outcome::Judged(records, _) => Some(records),
+            Outcome::Found(records, _) | Outcome::Judged(records, _) => Some(records),
             Outcome::None | Outcome::Unasked => None,
+        }
+    }
+
+    /// How long each rule waits, where the judge has said yes.
+    pub fn waits(&self) -> Option<&[u32]> {
+        match self {
+            Outcome::Found(_, waits) | Outcome::Judged(_, Ok(waits)) => Some(waits),
+            Outcome::Judged(_, Err(_)) | Outcome::None | Outcome::Unasked => None,
         }
     }
 
@@ -43,11 +52,11 @@ impl Outcome<'_> {
         };
         let by = "by the library's judge the converter";
         match self {
-            Outcome::Found(_) => format!(
+            Outcome::Found(..) => format!(
                 "A converter exists. The library's search found one, of {of}, and its judge says yes: it is {keeps}."
             ),
             Outcome::None => "No converter of any size keeps these rules: the library's search answers 16.".to_string(),
-            Outcome::Judged(_, Ok(())) => format!("Yes: {by} of {of} is {keeps}."),
+            Outcome::Judged(_, Ok(_)) => format!("Yes: {by} of {of} is {keeps}."),
             Outcome::Judged(_, Err(Refused::UNMATCHED)) => {
                 format!("No: {by} of {of} isn't matched to the tables (14).")
             }
@@ -63,8 +72,10 @@ impl Outcome<'_> {
 /// The body of the section Verdict.
 pub fn verdict(design: &Design, outcome: &Outcome, notes: &str) -> String {
     let mut out = format!("{}\n\n{}\n", outcome.sentence(design), sizes::of(design).line());
-    if !notes.is_empty() {
-        out += &format!("\n{notes}");
+    for part in [&waited(design, outcome)[..], notes] {
+        if !part.is_empty() {
+            out += &format!("\n{part}");
+        }
     }
     out += &format!("\nNumbers:\n\n{}", numbers(design));
     if !design.rules.is_empty() {
@@ -72,6 +83,26 @@ pub fn verdict(design: &Design, outcome: &Outcome, notes: &str) -> String {
         out += &format!("\nThe rules by these numbers, as the library reads them:\n\n{rules}");
     }
     out.trim_end().to_string()
+}
+
+/// How long rules wait, a line of a list for each rule that is an until; nothing where none is.
+pub fn waited(design: &Design, outcome: &Outcome) -> String {
+    let rules = (1..).zip(&design.rules).zip(outcome.waits().unwrap_or_default());
+    let lines = rules.filter(|(_, wait)| **wait != NO_WAIT).map(|((number, rule), &wait)| {
+        let ticks = match (wait, design.formulas.at(rule.formula)) {
+            (0, Formula::Finally(g) | Formula::Until(_, g)) => {
+                format!("0 ticks, since `{}` holds at the start", design.text(g))
+            }
+            (1, _) => "1 tick".to_string(),
+            _ => format!("{} ticks", grouped(wait.into())),
+        };
+        format!("- rule {number}, `{}`: {ticks}\n", design.text(rule.formula))
+    });
+    let lines = lines.collect::<String>();
+    if lines.is_empty() {
+        return lines;
+    }
+    format!("How long rules wait at the most, by the library's judge:\n\n{lines}")
 }
 
 /// The notes on a converter as part of a page: each a sentence and its run as code.

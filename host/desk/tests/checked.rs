@@ -13,8 +13,8 @@ use checker::joined::steps;
 use checker::judge::{failing_rules, matched};
 use checker::page::read_converter;
 use checker::search::find;
-use checking::{add, notes, pages, rules, sets, unmatched, Case, Checked, Page, Seen};
-use common::{called, example, root, Called, Folder};
+use checking::{add, notes, pages, rules, sets, unmatched, waits, Case, Checked, Page, Seen};
+use common::{called, example, fed, root, Called, Folder};
 
 /// Whether the page has names for all that a converter says.
 fn has_names(case: &Case) -> bool {
@@ -44,13 +44,20 @@ fn judged(folder: &Folder, case: &Case, on_page: bool) -> Called {
     called(&folder.0, &["judge", "a.md", "a.converter"])
 }
 
+/// Checks what `judge` prints behind a yes: how long rules wait, and the notes.
+fn behind_a_yes(case: &Case, text: &str) -> Checked<Seen> {
+    let (mut seen, left) = waits::check(case, text)?;
+    add(&mut seen, notes::check(case, &left)?);
+    Ok(seen)
+}
+
 /// Checks what the program says to a converter, against the verdict of the second checker.
 fn check(case: &Case, called: &Called) -> Seen {
     let (design, converter) = (&case.page.design, &case.converter);
     let (status, kind, check): (_, _, fn(&Case, &str) -> Checked<Seen>) =
         match matched(design, converter) {
             false => (1, "14", unmatched::check),
-            true if failing_rules(design, converter).is_empty() => (0, "yes", notes::check),
+            true if failing_rules(design, converter).is_empty() => (0, "yes", behind_a_yes),
             true => (1, "15", rules::check),
         };
     let (page, text) = (&case.page.text, &called.out);
@@ -215,6 +222,51 @@ fn examples_with_edited_converters() {
         }
     }
     all_seen(&seen, &[("15", 50), ("14", 50), ("yes", 20), ("notes", 20)]);
+}
+
+/// The waits of what the search finds, on the page, by `judge` and by `show`; then of the same page with other converters: the one found with some transitions
+/// changed, and others that are matched.
+#[test]
+fn how_long_rules_wait() {
+    let folder = Folder::new();
+    let mut seen = Seen::new();
+    for seed in 0..400 {
+        let random = &mut Random::new(seed);
+        let page = pages::waiting_page(random, 4, 3);
+        if positions(&page.design) > 8_192 {
+            continue;
+        }
+        let written = fed(&folder.0, &["search", "--write"], page.text.as_bytes());
+        assert_eq!(written.status, i32::from(find(&page.design).is_none()), "{}", page.text);
+        if written.status == 1 {
+            assert!(!written.out.contains(waits::HEAD), "{}", written.out);
+            continue;
+        }
+        let found = Page::new(written.out.clone());
+        assert_eq!(found.read.design, page.read.design);
+        let read = read_converter(found.text.as_bytes(), found.names());
+        let converter = read.expect("no mistakes").expect("one was found");
+        let case = Case::new(found, converter.clone());
+        folder.write("a.md", &case.page.text);
+        for text in [written.out, called(&folder.0, &["show", "a.md"]).out] {
+            let checked = waits::check_page(&case, &text);
+            add(&mut seen, checked.unwrap_or_else(|complaint| panic!("{complaint}\n{text}")));
+        }
+        add(&mut seen, check(&case, &called(&folder.0, &["judge", "a.md"])));
+        for edits in 1..6 {
+            let mut changed = converter.clone();
+            for _ in 0..edits {
+                changed = edited(random, &page.design, &changed);
+            }
+            if edits > 3 {
+                changed = matched_converter(random, &page.design, 4);
+            }
+            let case = Case::new(Page::new(page.text.clone()), changed);
+            add(&mut seen, check(&case, &judged(&folder, &case, true)));
+        }
+    }
+    let waits = ["waits of none", "waits of one", "waits of two", "longer waits"];
+    all_seen(&seen, &waits.map(|kind| (kind, 30)));
 }
 
 #[test]
@@ -436,6 +488,39 @@ fn a_wrong_note_is_noticed() {
         (&text[6..], "", "are due"),
     ];
     complains(|text| notes::check(&case, text), &text, &changes);
+}
+
+/// The kernel is busy after one tick, and again after every second.
+#[test]
+fn a_wrong_wait_is_noticed() {
+    let records: &[(&str, &[&str])] = &[
+        ("idle, calm", &["read go | tick | 1", "read go | send ask | 2"]),
+        ("busy, calm", &["send done | tick | 0", "send done | send ask | 3"]),
+        ("busy, asks", &["send done | tick | 3"]),
+        ("idle, asks", &["read go | tick | 2"]),
+    ];
+    let formula = "A [ !busy U busy ]";
+    let case = by_hand(formula, records);
+    let text = format!("Yes.\n\n{}\n\n- rule 1, `A [ !busy U busy ]`: 1 tick\n", waits::HEAD);
+    let changes = [
+        ("1 tick", "2 ticks", "[(0, 2)] are told"),
+        ("1 tick", "1 ticks", "tells no wait"),
+        ("1 tick", "0 ticks", "tells no wait"),
+        ("1 tick", "0 ticks, since `busy` holds at the start", "doesn't hold there"),
+        ("1 tick", "0 ticks, since `!busy` holds at the start", "doesn't wait for"),
+        ("rule 1", "rule 2", "no rule"),
+        ("rule 1", "rule 0", "tells no wait"),
+        (formula, "AF busy", "isn't its rule"),
+        (formula, "busy busy", "is no formula"),
+        (&text[6..], "", "are due"),
+        ("- rule", "-  rule", "tells no wait"),
+    ];
+    complains(|text| behind_a_yes(&case, text), &text, &changes);
+    // A rule with an until inside has none.
+    let case = by_hand("AG AF busy", records);
+    complains(|text| behind_a_yes(&case, text), "Yes.\n", &[]);
+    let complaint = behind_a_yes(&case, &text.replace(formula, "AG AF busy"));
+    assert_eq!(complaint, Err("[(0, 1)] are told, and [] are due".to_string()));
 }
 
 /// In the run of a rule that fails no line may be missing, and no record may be another.

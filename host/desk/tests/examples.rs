@@ -8,10 +8,10 @@ use std::fs;
 use checker::bytes::{converter_bytes, positions, read_design, Record};
 use checker::none::no_converter;
 use common::{called, example, root, Folder};
-use gorzhani::{BLOCK, CELL, RECORD};
+use gorzhani::{BLOCK, CELL, MOST_RULES, NO_WAIT, RECORD};
 
 /// Whether a converter exists, and the positions: states × 2^kept × untils, by hand.
-const EXAMPLES: [(&str, bool, u128); 18] = [
+const EXAMPLES: [(&str, bool, u128); 19] = [
     // 2 × 2 states; three rules, the operand of an AX and an until.
     ("pair", true, 4 * 32),
     // One rule and one until more.
@@ -19,9 +19,11 @@ const EXAMPLES: [(&str, bool, u128); 18] = [
     // 2 × 2 states; four rules and the operands of four AX.
     ("handshake", true, 4 * 256),
     ("handshake-printed", false, 4 * 256),
-    // 3 × 3 states; four rules and three untils.
-    ("lock", true, 9 * 128 * 3),
-    ("lock-none", false, 9 * 128 * 3),
+    // 3 × 3 states; five rules, of which one is an until, and three more untils.
+    ("lock", true, 9 * 256 * 4),
+    ("lock-none", false, 9 * 256 * 4),
+    // 3 × 3 states; four rules, of which one is an until, and two more untils.
+    ("lock-waiting", true, 9 * 64 * 3),
     // 2 × 3 × 3 states; three rules and two untils.
     ("thumbnails", true, 18 * 32 * 2),
     ("thumbnails-none", false, 18 * 32 * 2),
@@ -44,6 +46,16 @@ const EXAMPLES: [(&str, bool, u128); 18] = [
     ("arbiter-consumer", false, 12 * 32),
     // 3 × 4 × 4 states; four rules and two untils.
     ("arbiter-masters", true, 48 * 64 * 2),
+];
+
+/// How long rules wait that are untils, counted from 1.
+const WAITS: [(&str, usize, u32); 3] = [
+    // Two ticks while the user rests: at the second one a job begins.
+    ("lock", 5, 2),
+    // The lock is free, and the drag gets it at once.
+    ("lock-waiting", 2, 1),
+    // There, back, there, back, there.
+    ("missionaries", 2, 5),
 ];
 
 fn file(name: &str) -> Vec<u8> {
@@ -120,7 +132,8 @@ fn verdicts_as_thought_out() {
     }
 }
 
-/// The converter on the page is that of the file, and the second checker's judge takes it.
+/// The converter on the page is that of the file, and the second checker's judge takes it; the page
+/// tells its waits.
 #[test]
 fn converters_by_the_second_checker() {
     for (name, found, _) in EXAMPLES {
@@ -129,11 +142,36 @@ fn converters_by_the_second_checker() {
         let on_page = checker::page::read_converter(page.as_bytes(), &read.names);
         let on_page = on_page.unwrap_or_else(|places| panic!("{name}: {places:?}"));
         assert_eq!(on_page, found.then(|| records(name)), "{name}");
+        let mut waits = [NO_WAIT; MOST_RULES];
         if let Some(records) = on_page {
             let (converter, mut work) = (converter_bytes(&records), vec![0; CELL * records.len()]);
-            assert_eq!(checker::judge(&read.design, &converter, &mut work), Ok(()), "{name}");
+            let yes = checker::judge(&read.design, &converter, &mut work, &mut waits);
+            assert_eq!(yes, Ok(()), "{name}");
         }
+        let waits = (1..).zip(waits).filter(|(_, wait)| *wait != NO_WAIT);
+        let waits: Vec<(usize, u32)> = waits.collect();
+        let own = WAITS.iter().filter(|(example, ..)| *example == name);
+        let own: Vec<(usize, u32)> = own.map(|(_, rule, wait)| (*rule, *wait)).collect();
+        assert_eq!((&told_waits(&page), &waits), (&own, &own), "{name}");
     }
+}
+
+/// The rules whose waits a page tells, counted from 1, and the waits.
+fn told_waits(page: &str) -> Vec<(usize, u32)> {
+    let lines = page.lines().filter_map(|line| line.strip_prefix("- rule "));
+    let told = lines.map(|line| {
+        let (rule, rest) = line.split_once(", `").expect("it has its formula");
+        let (_, ticks) = rest.split_once("`: ").expect("it has its wait");
+        let (ticks, words) = ticks.split_once(' ').expect("it counts something");
+        let told = (rule.parse().expect(line), ticks.parse().expect(line));
+        assert_eq!(words, if told.1 == 1 { "tick" } else { "ticks" }, "{line}");
+        told
+    });
+    let told: Vec<(usize, u32)> = told.collect();
+    let heads =
+        page.matches("\nHow long rules wait at the most, by the library's judge:\n\n- rule ");
+    assert_eq!(heads.count(), usize::from(!told.is_empty()), "{page}");
+    told
 }
 
 /// The list of examples says of each what is so.

@@ -19,7 +19,7 @@ use checker::bytes::{
 };
 use checker::generate::{page as random_page, Random};
 use common::{called, example, fed, program, run, Called, Folder};
-use gorzhani::{BLOCK, BLOCK_RECORDS, CELL, RECORD};
+use gorzhani::{BLOCK, BLOCK_RECORDS, CELL, MOST_RULES, RECORD};
 
 /// A bell rings at any time, and the door opens at the next tick.
 const DOOR: &str = "\
@@ -122,7 +122,8 @@ fn file_of(records: &[Record]) -> Vec<u8> {
 
 /// What the second checker's judge says.
 fn judged(design: &[u8], records: &[Record]) -> Result<(), u8> {
-    checker::judge(design, &converter_bytes(records), &mut vec![0; CELL * records.len()])
+    let (mut work, mut waits) = (vec![0; CELL * records.len()], [0; MOST_RULES]);
+    checker::judge(design, &converter_bytes(records), &mut work, &mut waits)
 }
 
 #[test]
@@ -450,6 +451,157 @@ fn judging_what_was_edited() {
     assert_eq!(ended(&called), answers(0));
     assert!(called.out.starts_with(YES), "{}", called.out);
     assert!(called.out.contains("Note: 'ring' can be delivered to the kernel more often than it was sent: here 1 time, after 0 sends."), "{}", called.out);
+}
+
+/// The line above the waits.
+const WAITS: &str = "How long rules wait at the most, by the library's judge:\n";
+
+/// Rules behind the door's: two untils, and between them one that has an until inside.
+const WAITING: &str = "
+2. The door opens.
+
+       AF open
+
+3. Again and again the door opens.
+
+       AG AF open
+
+4. The bell has rung, or has not rung yet.
+
+       A [ rang U !rang & !open ]
+";
+
+/// The door opens after one tick or, if the bell rings then, after two.
+#[test]
+fn how_long_rules_wait() {
+    let folder = Folder::new();
+    let eager = PASSED_ON.replacen("| tick | tick | 0 |", "| read ring | tick | 2 |", 1);
+    let page = [DOOR, WAITING, &eager].concat();
+    folder.write("own.md", &page);
+    let list = "
+- rule 2, `AF open`: 2 ticks
+- rule 4, `A [ rang U !rang & !open ]`: 0 ticks, since `!rang & !open` holds at the start
+";
+    let waits = format!("{WAITS}{list}");
+    let yes = YES.replace("the one rule", "all 4 rules");
+    let judged = called(&folder.0, &["judge", "own.md"]);
+    assert_eq!(ended(&judged), answers(0));
+    assert!(judged.out.starts_with(&format!("{yes}\n{waits}\nNote: 'ring'")), "{}", judged.out);
+    let shown = called(&folder.0, &["show", "own.md"]);
+    let (verdict, _) = shown.out.split_once("\nNumbers:\n").expect("it has numbers");
+    assert_eq!(verdict.matches(&format!(" positions.\n\n{waits}\nNote: 'ring'")).count(), 1);
+    // By its bytes it has numbers for names, and no AF.
+    folder.write("own.design", design_of(&page));
+    folder.write("own.converter", file_of(&converter_of(&page).expect("there is a table")));
+    let judged = called(&folder.0, &["judge", "own.design", "own.converter"]);
+    let list = "
+- rule 2, `A [ TRUE U l0 ]`: 2 ticks
+- rule 4, `A [ l16 U !l16 & !l0 ]`: 0 ticks, since `!l16 & !l0` holds at the start
+";
+    assert!(judged.out.starts_with(&format!("{yes}\n{WAITS}{list}\n")), "{}", judged.out);
+
+    // The search's own converter, in the answer, on the page, and read from there.
+    let source = [DOOR, WAITING].concat();
+    folder.write("found.md", &source);
+    let found = called(&folder.0, &["search", "found.md"]);
+    assert_eq!(ended(&found), answers(0));
+    let told = |text: &str| {
+        let (_, list) = text.split_once(WAITS).expect("it tells waits");
+        list.split_once("\n\n").expect("something follows").0.to_string()
+    };
+    assert_eq!(called(&folder.0, &["search", "found.md", "--write"]).status, 0);
+    let written = String::from_utf8(folder.read("found.md")).expect("a page is text");
+    assert_eq!(told(&written), told(&found.out));
+    assert_eq!(design_of(&written), design_of(&source));
+    let again = called(&folder.0, &["judge", "found.md"]);
+    assert_eq!(ended(&again), answers(0));
+    assert_eq!(told(&again.out), told(&found.out));
+
+    // A no has no waits, and neither has a page without such a rule.
+    folder.write("found.md", [DOOR, WAITING, PASSED_ON].concat());
+    folder.write("door.md", door_with(PASSED_ON));
+    for (words, status) in [
+        (["judge", "found.md"], 1),
+        (["show", "found.md"], 0),
+        (["search", "door.md"], 0),
+        (["judge", "door.md"], 0),
+        (["show", "door.md"], 0),
+    ] {
+        let called = called(&folder.0, &words);
+        assert_eq!(ended(&called), answers(status), "{words:?}");
+        assert!(!called.out.contains("wait") && !called.out.contains("- rule"), "{}", called.out);
+    }
+}
+
+/// The example with the drag that waits, edited by hand: it waits for one tick more.
+#[test]
+fn a_longer_wait() {
+    let folder = Folder::new();
+    let page = example("lock-waiting");
+    let wait = |page: &str| {
+        let judged = fed(&folder.0, &["judge"], page.as_bytes());
+        assert_eq!(ended(&judged), answers(0), "{}", judged.out);
+        judged.out.lines().find_map(|line| {
+            line.strip_prefix("- rule 2, `A [ !thumb U drags ]`: ").map(str::to_string)
+        })
+    };
+    assert_eq!(wait(&page), Some("1 tick".to_string()));
+    let changed = |from: &str, to: &str, page: &str| {
+        assert_eq!(page.matches(from).count(), 1, "{from} in {page}");
+        page.replace(from, to)
+    };
+    let edited = changed(
+        "| read lock      | read go    | 1    |",
+        "| tick           | tick       | 7    |",
+        &page,
+    );
+    let edited = changed(
+        "| tick           | tick       | 0    |",
+        "| read lock      | read go    | 1    |",
+        &edited,
+    );
+    assert_eq!(wait(&edited), Some("2 ticks".to_string()));
+}
+
+/// A lamp that the converter lights after so many ticks as it has records before.
+#[test]
+fn a_wait_of_many_ticks() {
+    let folder = Folder::new();
+    let mut page = String::from(
+        "\
+## Kernel
+
+| state | holds | transitions |
+|---|---|---|
+| dark | | tick to dark; read light to bright |
+| bright | shines | tick to bright |
+
+## Host
+
+| state | holds | transitions |
+|---|---|---|
+| still | | tick to still |
+
+## Rules
+
+1. The lamp shines in the end.
+
+       AF shines
+
+## Converter
+
+| record | names | kernel | host | next |
+|---|---|---|---|---|
+",
+    );
+    for record in 0..1_233 {
+        page += &format!("| {record} | dark, still | tick | tick | {} |\n", record + 1);
+    }
+    page += "| 1233 | dark, still | read light | tick | 1234 |\n";
+    page += "| 1234 | bright, still | tick | tick | 1234 |\n";
+    let judged = fed(&folder.0, &["judge"], page.as_bytes());
+    assert_eq!(ended(&judged), answers(0), "{}", judged.errors);
+    assert!(judged.out.ends_with("\n\n- rule 1, `AF shines`: 1,234 ticks\n"), "{}", judged.out);
 }
 
 #[test]

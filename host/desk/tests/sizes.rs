@@ -35,7 +35,7 @@ fn ticking(states: &[usize], rules: &str) -> Design {
 #[test]
 fn lines() {
     let lines = [
-        ("lock-none", "3 and 3 states, 26 formulas, 7 kept, 3 of kind 8: 3,456 positions."),
+        ("lock-none", "3 and 3 states, 31 formulas, 8 kept, 4 of kind 8: 9,216 positions."),
         ("handshake-printed", "2 and 2 states, 36 formulas, 8 kept, 0 of kind 8: 1,024 positions."),
         (
             "thumbnails-none",

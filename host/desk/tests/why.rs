@@ -76,13 +76,13 @@ fn either_and_not_both() {
 
 #[test]
 fn examples() {
-    // A job is begun for rule 4, the user presses during it, and it goes on for ever: the drag can't
+    // A job is begun for rule 4 or for rule 5, the user presses during it, and it goes on for ever: the drag can't
     // begin without the lock for rule 1, and has to for rule 3. Rule 2 asks nothing during a job. No
-    // job is begun where rule 4 is left out, the drag begins without the lock or never where the
+    // job is begun where rules 4 and 5 are left out, the drag begins without the lock or never where the
     // first or the third is. Without the tick of job it is the lock; without that of idle a drag waits or drags again and again, and no job
     // is wanted. That a drag ends at once doesn't help: a user who rests wants a job.
     let changes = [(0, 2, SENDS_AT_ONCE), (1, 0, SENDS_AT_ONCE)];
-    expect(&example("lock-none"), &[&[0, 2, 3]], &changes);
+    expect(&example("lock-none"), &[&[0, 2, 3], &[0, 2, 4]], &changes);
     // (s1, t0) is always reached: by the first request, or from (s1, t1), which serial leaves. There
     // rule 3 wants (s0, t1) at the grant, where rule 4 breaks. If the grant comes at once, both sides
     // go from (s0, t0) to (s1, t1) and back. If t1 waits, it waits in (s1, t1) for the grant.

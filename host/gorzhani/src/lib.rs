@@ -36,6 +36,8 @@ pub const MOST_RULES: usize = 16;
 pub const MOST_BRACKETS: usize = 32;
 /// The number of the last name that rules are typed with: they are p0 to p47, the labels of the three sides.
 pub const LAST_NAME: u8 = 47;
+/// The wait of a rule that is no until. No until waits so long.
+pub const NO_WAIT: u32 = u32::MAX;
 
 /// The record that a runner stands at, and the events last delivered to the sides.
 #[repr(C)]
@@ -68,6 +70,8 @@ extern "C" {
         converter_len: usize,
         work: *mut u8,
         work_len: usize,
+        waits: *mut u32,
+        waits_len: usize,
     ) -> i32;
     fn gorzhani_write(
         converter: *const u8,
@@ -129,9 +133,16 @@ pub fn search(design: &[u8], table: &mut [u8], work: &mut [u8]) -> Result<usize,
     })
 }
 
-/// Judges a converter against a design: lend [`CELL`] bytes of work for each record.
-pub fn judge(design: &[u8], converter: &[u8], work: &mut [u8]) -> Result<(), Refused> {
-    // SAFETY: as above; the design and the converter are only read.
+/// Judges a converter against a design: lend [`CELL`] bytes of work for each record and a number of waits for each rule, of which there are at most
+/// [`MOST_RULES`]. After a yes the number of a rule that is an until A(a U b) is the least number of ticks within which every path has reached b, and that of
+/// any other rule is [`NO_WAIT`], also where an until stands inside it. After a refusal the waits are as they were.
+pub fn judge(
+    design: &[u8],
+    converter: &[u8],
+    work: &mut [u8],
+    waits: &mut [u32],
+) -> Result<(), Refused> {
+    // SAFETY: as above; the design and the converter are only read, and a `&mut [u32]` is aligned.
     answer(unsafe {
         gorzhani_judge(
             design.as_ptr(),
@@ -140,6 +151,8 @@ pub fn judge(design: &[u8], converter: &[u8], work: &mut [u8]) -> Result<(), Ref
             converter.len(),
             work.as_mut_ptr(),
             work.len(),
+            waits.as_mut_ptr(),
+            waits.len(),
         )
     })
     .map(|_| ())

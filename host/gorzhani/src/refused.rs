@@ -46,7 +46,7 @@ refusals! {
     RECORD = 11, "a converter record has a side state over 15, a count outside 1 to 8, an event \
         outside -63 to 63, an event triple twice, a next record that isn't there, or an unused \
         byte that isn't zero";
-    SHORT_RESULT = 12, "the lent result is too short";
+    SHORT_RESULT = 12, "the lent result is too short; of a judge it is the list of waits";
     SHORT_WORK = 13, "the lent work is too short";
     UNMATCHED = 14, "the converter isn't matched to the sides";
     RULE = 15, "some rule doesn't hold";

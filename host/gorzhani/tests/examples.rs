@@ -6,7 +6,7 @@
 use std::fs;
 use std::path::Path;
 
-use gorzhani::{Refused, BLOCK, BLOCK_RECORDS, CELL, RECORD};
+use gorzhani::{Refused, BLOCK, BLOCK_RECORDS, CELL, MOST_RULES, RECORD};
 
 #[test]
 fn examples() {
@@ -31,7 +31,8 @@ fn examples() {
         let mut blocks = vec![0; BLOCK * records.div_ceil(BLOCK_RECORDS)];
         assert_eq!(gorzhani::write(shown, &mut blocks), Ok(blocks.len() / BLOCK));
         assert!(blocks == beside, "{path:?} is shown with another converter");
-        let judged = gorzhani::judge(&design, shown, &mut vec![0; CELL * records]);
+        let (mut work, mut waits) = (vec![0; CELL * records], [0; MOST_RULES]);
+        let judged = gorzhani::judge(&design, shown, &mut work, &mut waits);
         assert_eq!(judged, Ok(()), "{path:?}");
         found += 1;
     }

@@ -5,11 +5,12 @@ mod common;
 use std::collections::BTreeSet;
 use std::error::Error;
 
-use checker::{bytes, ranges, refusal, rules};
+use checker::{bytes, ranges, refusal, rules, waits};
 use common::header;
 use gorzhani::{
     Refused, BLOCK, BLOCK_RECORDS, CELL, ENTRY, FIVE_BLOCKS, FOUR_BLOCKS, LAST_NAME, MOST,
-    MOST_BRACKETS, MOST_FORMULAS, MOST_RULES, MOST_WAITS, NO_GREATEST, RECORD, RULE_BLOCKS,
+    MOST_BRACKETS, MOST_FORMULAS, MOST_RULES, MOST_WAITS, NO_GREATEST, NO_WAIT, RECORD,
+    RULE_BLOCKS,
 };
 
 /// The numbers that there are.
@@ -131,9 +132,11 @@ fn constants() {
         ("MOST_RULES", MOST_RULES),
         ("MOST_BRACKETS", MOST_BRACKETS),
         ("LAST_NAME", usize::from(LAST_NAME)),
+        ("NO_WAIT", NO_WAIT as usize),
     ] {
         assert_eq!(header(&format!("GORZHANI_{name}")), size, "{name}");
     }
+    assert_eq!([NO_WAIT, waits::NO_WAIT], [4_294_967_295; 2]);
     assert_eq!(
         (ENTRY, MOST_WAITS, NO_GREATEST),
         (ranges::ENTRY_BYTES, ranges::MOST_WAITS, ranges::NO_GREATEST)

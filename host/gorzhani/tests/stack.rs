@@ -18,8 +18,10 @@ use checker::generate::{
     loose_converter, script, text_at_limits, waiting_design, Random,
 };
 use checker::ranges::list_bytes;
-use common::{header, mixed_design, Answers};
-use gorzhani::{Runner, BLOCK, BLOCK_RECORDS, CELL, FIVE_BLOCKS, MOST, RECORD, RULE_BLOCKS};
+use common::{header, mixed_design, rule_count, Answers};
+use gorzhani::{
+    Runner, BLOCK, BLOCK_RECORDS, CELL, FIVE_BLOCKS, MOST, MOST_RULES, RECORD, RULE_BLOCKS,
+};
 use samples::{rings, three_rings};
 use typed::{at_the_limits, long_texts};
 use waits::rows_at_the_limit;
@@ -58,25 +60,37 @@ impl Call {
         Call { function, stack: vec![PATTERN; PLACES], answers: Answers::default() }
     }
 
-    /// Calls the function with these arguments in registers.
+    /// Calls the function with these arguments: up to six in registers, two more on the stack.
     ///
     /// # Safety
     /// They are arguments as the C header asks for.
-    unsafe fn with(&mut self, arguments: [usize; 6]) -> i32 {
+    unsafe fn with<const ARGUMENTS: usize>(&mut self, arguments: [usize; ARGUMENTS]) -> i32 {
+        let (first, behind) = arguments.split_at(ARGUMENTS.min(6));
+        let mut registers = [0; 6];
+        registers[..first.len()].copy_from_slice(first);
+        let mut top = self.stack.as_mut_ptr().add(PLACES);
+        match *behind {
+            [] => {}
+            [seventh, eighth] => {
+                top = top.sub(1);
+                top.write(Place([seventh as u64, eighth as u64]));
+            }
+            _ => unreachable!("no call has seven arguments or over eight"),
+        }
         let answer: i32;
         asm!(
             "mov r12, rsp",
             "mov rsp, {top}",
             "call {function}",
             "mov rsp, r12",
-            top = in(reg) self.stack.as_mut_ptr().add(PLACES),
+            top = in(reg) top,
             function = in(reg) self.function,
-            in("rdi") arguments[0],
-            in("rsi") arguments[1],
-            in("rdx") arguments[2],
-            in("rcx") arguments[3],
-            in("r8") arguments[4],
-            in("r9") arguments[5],
+            in("rdi") registers[0],
+            in("rsi") registers[1],
+            in("rdx") registers[2],
+            in("rcx") registers[3],
+            in("r8") registers[4],
+            in("r9") registers[5],
             out("r12") _,
             lateout("eax") answer,
             clobber_abi("C"),
@@ -89,7 +103,7 @@ impl Call {
     ///
     /// # Safety
     /// As above.
-    unsafe fn done(&mut self, arguments: [usize; 6]) {
+    unsafe fn done<const ARGUMENTS: usize>(&mut self, arguments: [usize; ARGUMENTS]) {
         let answer = self.with(arguments);
         assert!(answer <= 0, "{answer}");
     }
@@ -139,25 +153,35 @@ impl Calls {
             (written(&mut table), written(&mut work));
         // SAFETY: the pointers are those of slices that live on, and the functions take these.
         let answer = unsafe {
-            self.positions.with([at, length, 0, 0, 0, 0]);
+            self.positions.with([at, length]);
             self.search.with([at, length, table_at, table_length, work_at, work_length])
         };
         table.truncate(RECORD * usize::try_from(answer).ok()?);
         Some(table)
     }
 
-    /// Judges a converter, writes it and reads it back.
-    fn converter(&mut self, design: &[u8], converter: &[u8]) {
+    /// Judges a converter with a list of so many waits lent, writes it and reads it back.
+    fn converter(&mut self, design: &[u8], converter: &[u8], lent: usize) {
         let records = converter.len() / RECORD;
-        let (mut work, mut file) =
-            (vec![0; CELL * records], vec![0; BLOCK * records.div_ceil(BLOCK_RECORDS)]);
+        let (mut work, mut waits) = (vec![0; CELL * records], vec![0_u32; lent]);
+        let mut file = vec![0; BLOCK * records.div_ceil(BLOCK_RECORDS)];
         let ([design_at, design_length], [at, length]) = (read(design), read(converter));
-        let ([work_at, work_length], [file_at, file_length]) =
-            (written(&mut work), written(&mut file));
+        let ([work_at, work_length], [waits_at, waits_length]) =
+            (written(&mut work), written(&mut waits));
+        let [file_at, file_length] = written(&mut file);
         // SAFETY: as above.
         unsafe {
-            self.judge.done([design_at, design_length, at, length, work_at, work_length]);
-            self.write.with([at, length, file_at, file_length, 0, 0]);
+            self.judge.done([
+                design_at,
+                design_length,
+                at,
+                length,
+                work_at,
+                work_length,
+                waits_at,
+                waits_length,
+            ]);
+            self.write.with([at, length, file_at, file_length]);
         }
         self.file(&file);
     }
@@ -167,7 +191,7 @@ impl Calls {
         let mut memory = vec![0; RECORD * BLOCK_RECORDS * file.len().div_ceil(BLOCK)];
         let ([file_at, file_length], [at, length]) = (read(file), written(&mut memory));
         // SAFETY: as above.
-        unsafe { self.read.with([file_at, file_length, at, length, 0, 0]) };
+        unsafe { self.read.with([file_at, file_length, at, length]) };
     }
 
     /// Ticks once.
@@ -195,7 +219,7 @@ impl Calls {
         let mut blocks = vec![0; lent];
         let ([at, length], [blocks_at, blocks_length]) = (read(text), written(&mut blocks));
         // SAFETY: as above.
-        unsafe { self.rules.with([at, length, blocks_at, blocks_length, 0, 0]) };
+        unsafe { self.rules.with([at, length, blocks_at, blocks_length]) };
     }
 }
 
@@ -204,9 +228,9 @@ fn read(bytes: &[u8]) -> [usize; 2] {
     [bytes.as_ptr() as usize, bytes.len()]
 }
 
-/// Bytes that are written, as arguments.
-fn written(bytes: &mut [u8]) -> [usize; 2] {
-    [bytes.as_mut_ptr() as usize, bytes.len()]
+/// Bytes or numbers that are written, as arguments.
+fn written<Element>(list: &mut [Element]) -> [usize; 2] {
+    [list.as_mut_ptr() as usize, list.len()]
 }
 
 #[test]
@@ -221,7 +245,8 @@ fn no_call_takes_more_than_the_header_says() {
         }
         let found = calls.design(&bytes, 1 << random.below(13));
         for converter in found.into_iter().chain([any_converter(&mut random, &made)]) {
-            calls.converter(&bytes, &converter);
+            let waits = rule_count(&bytes).saturating_sub(usize::from(random.once_in(8)));
+            calls.converter(&bytes, &converter, waits);
             let mut runner = Runner::default();
             for shown in script(&mut random, &made, &converter, 5) {
                 calls.tick(&converter, &mut runner, shown);
@@ -268,13 +293,13 @@ fn no_call_takes_more_than_the_header_says() {
     for full in [rings(Formula::Always(14)), three_rings(Formula::Always(9))] {
         let bytes = full.to_bytes();
         let found = calls.design(&bytes, MOST).expect("there is a converter");
-        calls.converter(&bytes, &found);
-        calls.converter(&bytes, &most);
+        calls.converter(&bytes, &found, MOST_RULES);
+        calls.converter(&bytes, &most, MOST_RULES);
     }
 
     calls.positions.took(&[0, 1, 2, 3, 4, 5, 6, 7, 8, 9], "GORZHANI_POSITIONS_STACK");
     calls.search.took(&[0, 1, 2, 3, 4, 5, 6, 7, 8, 9, 12, 16], "GORZHANI_SEARCH_STACK");
-    let judged = [0, 1, 2, 3, 4, 5, 6, 7, 8, 10, 11, 14, 15];
+    let judged = [0, 1, 2, 3, 4, 5, 6, 7, 8, 10, 11, 12, 14, 15];
     calls.judge.took(&judged, "GORZHANI_JUDGE_STACK");
     calls.write.took(&[0, 10, 11], "GORZHANI_WRITE_STACK");
     calls.read.took(&[0, 1, 2, 3, 4, 8, 11], "GORZHANI_READ_STACK");

@@ -10,7 +10,7 @@ mod samples;
 use checker::bytes::{converter_bytes, idle_side};
 use checker::generate::{any_converter, Random};
 use common::{about, judge_agrees, mixed_design, search_agrees, size, Answers, Lent};
-use gorzhani::{Refused, CELL, FIVE_BLOCKS, FOUR_BLOCKS, RECORD};
+use gorzhani::{Refused, CELL, FIVE_BLOCKS, FOUR_BLOCKS, MOST_RULES, RECORD};
 use kept::kept;
 
 #[test]
@@ -43,11 +43,15 @@ fn searched(design: &[u8], table: usize, work: usize) -> (Result<usize, Refused>
     (answer, [table, work].map(|lent| lent.part().to_vec()))
 }
 
-/// What the judge answers, and the lent bytes after it.
-fn judged(design: &[u8], converter: &[u8], work: usize) -> (Result<(), Refused>, Vec<u8>) {
-    let mut work = Lent::new(work);
-    let answer = gorzhani::judge(design, converter, work.part_mut());
-    (answer, work.part().to_vec())
+/// What the judge answers, and the lent bytes and numbers after it.
+fn judged(
+    design: &[u8],
+    converter: &[u8],
+    work: usize,
+) -> (Result<(), Refused>, Vec<u8>, [u32; MOST_RULES]) {
+    let (mut work, mut waits) = (Lent::new(work), [7; MOST_RULES]);
+    let answer = gorzhani::judge(design, converter, work.part_mut(), &mut waits);
+    (answer, work.part().to_vec(), waits)
 }
 
 #[test]
@@ -68,8 +72,8 @@ fn four_blocks_and_five_say_the_same() {
 
         let converter = any_converter(&mut random, &made);
         let work = about(&mut random, CELL * (converter.len() / RECORD));
-        let (answer, lent) = judged(&four, &converter, work);
-        assert!((answer, lent) == judged(&five, &converter, work), "{made:?}");
+        let (answer, lent, waits) = judged(&four, &converter, work);
+        assert!((answer, lent, waits) == judged(&five, &converter, work), "{made:?}");
         answers.count(answer.err().map_or(0, |refused| refused.0));
     }
     answers.are(&[0, 9, 10, 11, 12, 13, 14, 15, 16], 50);

@@ -22,18 +22,24 @@ refused-requires c κs = search needs
 same-length : tie.Need-same-length
 same-length c = search needs
 
-returns : tie.Need-returns
-returns c =
-    let judged = c .before .before .before .before .judge in
-    judge-promised (judged .ensures) (sym (ap judge-code (c .enum-told .given .1)))
-
 same-length-2 : tie.Need-same-length-2
 same-length-2 c = search needs
+
+returns : tie.Need-returns
+returns c =
+    let judged = c .before .before .before .before .before .before .judge in
+    judge-promised (judged .ensures) (sym (ap judge-code (c .enum-told .given .1)))
+
+same-length-3 : tie.Need-same-length-3
+same-length-3 c = search needs
+
+same-length-4 : tie.Need-same-length-4
+same-length-4 c = search needs
 
 returns-2 : tie.Need-returns-2
 returns-2 c =
     let told = c .before .before in
-    let judged = told .before .before .before .before .judge in
+    let judged = told .before .before .before .before .before .before .judge in
     let number : c .refused .result ≡ refusal-code (told .answer .given .0 .0) = c .refused .ensures in
     judge-promised (judged .ensures) (read-back (c .refused .result) (c .refused .ok) ∙ number ∙ sym (ap judge-code (told .answer .given .1)))
 
@@ -46,6 +52,8 @@ gorzhani-judge-spec =
     enum-known-answer
     refused-requires
     same-length
-    returns
     same-length-2
+    returns
+    same-length-3
+    same-length-4
     returns-2)

@@ -1,4 +1,4 @@
--- `judge` meets its contract: a refusal, or the verdict and cleared cells.
+-- `judge` meets its contract: a refusal, or the verdict with the list and cleared cells.
 use mathlib.Core.Path.{_≡_, sym, ap, _∙_}
 use Prim.Native.Nat.{_*_}
 use native.Mathlib.Omega.{arith}
@@ -17,18 +17,21 @@ judge-refusal-requires c κs = search needs
 
 returns : tie.Need-returns
 returns c =
-    let a = c .before .before .before .before .before .args in
-    judge-refused (a .design .now) (a .converter .now) (a .work .now) (c .before .judge-refusal .result) (c .before .judge-refusal .ensures) (c .if1 .taken)
+    let tested = c .before in
+    let a = tested .before .before .before .before .before .args in
+    judge-refused (a .design .now) (a .converter .now) (a .work .now) (a .waits .now) (tested .judge-refusal .result) (tested .judge-refusal .ensures) (c .if1 .taken)
 
 -- nothing is refused
-none : (c : tie.Else1) → let a = c .before .before .before .before .before .args in judge-refusal (a .design .now) (a .converter .now) (length (a .work .now)) ≡ 0
+none : (c : tie.Else1) → let a = c .before .before .before .before .before .before .args in judge-refusal (a .design .now) (a .converter .now) (length (a .work .now)) (length (a .waits .now)) ≡ 0
 none c = sym (c .before .judge-refusal .ensures) ∙ c .if1 .left
 
-passed : (c : tie.Else1) → let a = c .before .before .before .before .before .args in Passes (a .design .now) (a .converter .now) (length (a .work .now))
-passed c = let a = c .before .before .before .before .before .args in passes (a .design .now) (a .converter .now) (length (a .work .now)) (none c)
+passed : (c : tie.Else1) → let a = c .before .before .before .before .before .before .args in Passes (a .design .now) (a .converter .now) (length (a .work .now)) (length (a .waits .now))
+passed c =
+    let a = c .before .before .before .before .before .before .args in
+    passes (a .design .now) (a .converter .now) (length (a .work .now)) (length (a .waits .now)) (none c)
 
 verdict-requires : tie.Need-verdict-requires
-verdict-requires c κs = let p = passed (c .before) in (p .designed, (p .converted, p .roomy))
+verdict-requires c κs = let p = passed (c .before .before) in (p .designed, (p .converted, p .roomy), p .all-listed)
 
 count-requires : tie.Need-count-requires
 count-requires c κs = search needs
@@ -37,29 +40,45 @@ mul-fill : tie.Need-mul-fill
 mul-fill c = search needs
 
 fill-requires : tie.Need-fill-requires
-fill-requires c κs = omega (arith, c .count .ensures, passed (c .before .before .before .before .before .before) .roomy, c .before .before .before .before .verdict .kept .1 .1 .0)
+fill-requires c κs =
+    let found = c .before .before .before .before .before .before in
+    omega (arith, c .count .ensures, passed (found .before .before .before) .roomy, found .verdict .kept .1 .1 .0)
 
--- the cells are cleared
-cleared : (c : tie.After-fill) → c .fill .last .0 ≡ put (c .before .before .before .before .before .verdict .last .1 .1 .0) 0 (replicate (cell-bytes * records (c .before .before .before .before .before .before .before .before .before .before .before .before .args .converter .now)) 0)
-cleared c = c .fill .ensures ∙ ap (λ n. put (c .before .before .before .before .before .verdict .last .1 .1 .0) 0 (replicate (cell-bytes * n) 0)) (c .before .count .ensures)
+-- the verdict was found, and the cells are cleared
+cleared : (c : tie.After-fill) → let found = c .before .before .before .before .before .before .before in c .fill .last .0 ≡ put (found .verdict .last .1 .1 .0) 0 (replicate (cell-bytes * records (found .before .before .before .before .before .before .before .before .before .args .converter .now)) 0)
+cleared c =
+    let found = c .before .before .before .before .before .before .before in
+    c .fill .ensures ∙ ap (λ n. put (found .verdict .last .1 .1 .0) 0 (replicate (cell-bytes * n) 0)) (c .before .count .ensures)
 
 same-length : tie.Need-same-length
 same-length c = search needs
 
-returns-2 : tie.Need-returns-2
-returns-2 c =
-    let a = c .before .before .before .before .before .before .before .before .before .before .before .before .before .before .before .args in
-    let v = c .before .before .before .before .before .before .before .before .verdict in
-    judge-no (a .design .now) (a .converter .now) (a .work .now) (v .result) (v .last .1 .1 .0) (c .before .before .before .fill .last .0) (none (c .before .before .before .before .before .before .before .before .before .before)) (v .ensures) (cleared (c .before .before .before)) (c .if2 .taken)
-
 same-length-2 : tie.Need-same-length-2
 same-length-2 c = search needs
 
+returns-2 : tie.Need-returns-2
+returns-2 c =
+    let filled = c .before .before .before in
+    let found = filled .before .before .before .before .before .before .before in
+    let go = found .before .before .before in
+    let a = go .before .before .before .before .before .before .args in
+    let v = found .verdict in
+    judge-no (a .design .now) (a .converter .now) (a .work .now) (a .waits .now) (v .result) (v .last .1 .1 .0) (filled .fill .last .0) (v .last .1 .1 .1 .0) (none go) (v .ensures) (cleared filled) (c .if2 .taken)
+
+same-length-3 : tie.Need-same-length-3
+same-length-3 c = search needs
+
+same-length-4 : tie.Need-same-length-4
+same-length-4 c = search needs
+
 returns-3 : tie.Need-returns-3
 returns-3 c =
-    let a = c .before .before .before .before .before .before .before .before .before .before .before .before .before .before .before .args in
-    let v = c .before .before .before .before .before .before .before .before .verdict in
-    judge-yes (a .design .now) (a .converter .now) (a .work .now) (v .result) (v .last .1 .1 .0) (c .before .before .before .fill .last .0) (none (c .before .before .before .before .before .before .before .before .before .before)) (v .ensures) (cleared (c .before .before .before)) (c .if2 .left)
+    let filled = c .before .before .before in
+    let found = filled .before .before .before .before .before .before .before in
+    let go = found .before .before .before in
+    let a = go .before .before .before .before .before .before .args in
+    let v = found .verdict in
+    judge-yes (a .design .now) (a .converter .now) (a .work .now) (a .waits .now) (v .result) (v .last .1 .1 .0) (filled .fill .last .0) (v .last .1 .1 .1 .0) (none go) (v .ensures) (cleared filled) (c .if2 .left)
 
 pub judge-spec : {M : Type 1} → statement M
 judge-spec =
@@ -72,6 +91,8 @@ judge-spec =
     mul-fill
     fill-requires
     same-length
-    returns-2
     same-length-2
+    returns-2
+    same-length-3
+    same-length-4
     returns-3)

@@ -1,15 +1,19 @@
--- `judge_refusal` meets its contract: the design's refusals first, then the converter's, and then 13.
-use mathlib.Core.Path.{_≡_, sym, ap, _∙_}
-use mathlib.Core.Bool.{cond}
+-- `judge_refusal` meets its contract: the design's refusals first, then the converter's, then 12 and 13.
+use mathlib.Core.Path.{_≡_, sym, ap, ap₂, _∙_}
+use mathlib.Core.Bool.{true, cond}
 use Prim.Native.Nat.{_*_}
 use native.Mathlib.Omega.{arith}
 use borrow.Author.Tests.{le-leb, lt-leb}
 use borrow.Author.Needs.{needs}
+use lib.Dec.{leb}
+use lib.ListN.{length}
 use Rattle.layout.specs.Sizes.{cell-bytes}
+use Rattle.layout.specs.Designs.{design}
 use Rattle.layout.specs.Converters.{records}
 use Rattle.refusals.specs.Refusals.{design-refusal, converter-refusal}
 use Rattle.refusals.proofs.Accepted.{accepted}
-use Rattle.judge.proofs.Judging.{design-refused, converter-refused, by-room}
+use Rattle.refusals.proofs.WellFormed.{passed}
+use Rattle.judge.proofs.Judging.{design-refused, converter-refused, by-lent}
 use Rattle.judge.proofs.judge_refusal.Statement.{statement}
 use Rattle.judge.proofs.judge_refusal.Tie as tie
 
@@ -28,7 +32,7 @@ returns : tie.Need-returns
 returns c =
     let a = c .before .before .before .before .args in
     let e = c .before .design-refusal .ensures in
-    e ∙ sym (design-refused (a .design .now) (a .converter .now) (a .room) (λ z. c .if1 .taken (e ∙ z)))
+    e ∙ sym (design-refused (a .design .now) (a .converter .now) (a .room) (a .listed) (λ z. c .if1 .taken (e ∙ z)))
 
 converter-refusal-requires : tie.Need-converter-refusal-requires
 converter-refusal-requires c κs = search needs
@@ -37,27 +41,48 @@ returns-2 : tie.Need-returns-2
 returns-2 c =
     let a = c .before .before .before .before .before .before .args in
     let e = c .before .converter-refusal .ensures in
-    e ∙ sym (converter-refused (a .design .now) (a .converter .now) (a .room) (designed (c .before .before)) (λ z. c .if2 .taken (e ∙ z)))
+    e ∙ sym (converter-refused (a .design .now) (a .converter .now) (a .room) (a .listed) (designed (c .before .before)) (λ z. c .if2 .taken (e ∙ z)))
+
+rule-count-requires : tie.Need-rule-count-requires
+rule-count-requires c κs = passed (c .before .before .before .before .before .before .args .design .now) (designed (c .before .before)) .whole
+
+returns-3 : tie.Need-returns-3
+returns-3 c =
+    let both = c .before .before in
+    let a = both .before .before .before .before .before .before .args in
+    sym (by-lent (a .design .now) (a .converter .now) (a .room) (a .listed) (designed (both .before .before)) (converted both)
+    ∙ ap (λ t. cond t (cond (leb (cell-bytes * records (a .converter .now)) (a .room)) 0 13) 12)
+    (lt-leb (length (design (a .design .now) .rules)) (a .listed) (omega (arith, c .before .rule-count .ensures))))
 
 count-requires : tie.Need-count-requires
 count-requires c κs = search needs
 
-mul-if3 : tie.Need-mul-if3
-mul-if3 c = omega (arith, c .count .ensures, accepted (c .before .before .before .before .before .before .before .args .converter .now) (converted (c .before)) .at-most)
+mul-if4 : tie.Need-mul-if4
+mul-if4 c =
+    let both = c .before .before .before in
+    omega (arith, c .count .ensures, accepted (both .before .before .before .before .before .before .args .converter .now) (converted both) .at-most)
 
-returns-3 : tie.Need-returns-3
-returns-3 c =
-    let b = c .before .before in
-    let a = b .before .before .before .before .before .before .args in
-    sym (by-room (a .design .now) (a .converter .now) (a .room) (designed (b .before .before)) (converted b)
-    ∙ ap (λ t. cond t 0 13) (lt-leb (cell-bytes * records (a .converter .now)) (a .room) (omega (arith, c .before .count .ensures))))
+-- the list is long enough
+listed : (c : tie.Else3) → let a = c .before .before .before .before .before .before .before .before .args in leb (length (design (a .design .now) .rules)) (a .listed) ≡ true
+listed c =
+    let a = c .before .before .before .before .before .before .before .before .args in
+    le-leb (length (design (a .design .now) .rules)) (a .listed) (omega (arith, c .before .rule-count .ensures))
 
 returns-4 : tie.Need-returns-4
 returns-4 c =
-    let b = c .before .before in
-    let a = b .before .before .before .before .before .before .args in
-    sym (by-room (a .design .now) (a .converter .now) (a .room) (designed (b .before .before)) (converted b)
-    ∙ ap (λ t. cond t 0 13) (le-leb (cell-bytes * records (a .converter .now)) (a .room) (omega (arith, c .before .count .ensures))))
+    let long = c .before .before in
+    let both = long .before .before in
+    let a = both .before .before .before .before .before .before .args in
+    sym (by-lent (a .design .now) (a .converter .now) (a .room) (a .listed) (designed (both .before .before)) (converted both)
+    ∙ ap₂ (λ t u. cond t (cond u 0 13) 12) (listed long) (lt-leb (cell-bytes * records (a .converter .now)) (a .room) (omega (arith, c .before .count .ensures))))
+
+returns-5 : tie.Need-returns-5
+returns-5 c =
+    let long = c .before .before in
+    let both = long .before .before in
+    let a = both .before .before .before .before .before .before .args in
+    sym (by-lent (a .design .now) (a .converter .now) (a .room) (a .listed) (designed (both .before .before)) (converted both)
+    ∙ ap₂ (λ t u. cond t (cond u 0 13) 12) (listed long) (le-leb (cell-bytes * records (a .converter .now)) (a .room) (omega (arith, c .before .count .ensures))))
 
 pub judge-refusal-spec : {M : Type 1} → statement M
 judge-refusal-spec =
@@ -67,7 +92,9 @@ judge-refusal-spec =
     returns
     converter-refusal-requires
     returns-2
-    count-requires
-    mul-if3
+    rule-count-requires
     returns-3
-    returns-4)
+    count-requires
+    mul-if4
+    returns-4
+    returns-5)

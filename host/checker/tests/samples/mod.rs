@@ -10,7 +10,8 @@
 use std::array::from_fn;
 
 use checker::bytes::{
-    positions, read_converter_memory, seal, Design, Formula, Link, Record, State, Transition, SIDES,
+    positions, read_converter_memory, read_design, seal, Design, Formula, Link, Record, State,
+    Transition, SIDES,
 };
 use checker::joined::proposition;
 
@@ -421,16 +422,52 @@ pub fn pattern(length: usize) -> Vec<u8> {
 /// Bytes lent beyond those demanded.
 pub const BEYOND: usize = 53;
 
-/// Judges, and holds every byte of work against the specification.
+/// Numbers that no rule gets and that differ from each other.
+pub fn numbers(length: usize) -> Vec<u32> {
+    (0..length).map(|at| 1_000_000 + at as u32).collect()
+}
+
+/// Judges with a list that is long enough, and holds every byte of work and every number of the
+/// list against the specification.
 pub fn judged(design: &[u8], converter: &[u8], work_length: usize) -> Result<(), u8> {
-    let mut work = pattern(work_length);
-    let answer = checker::judge(design, converter, &mut work);
+    judged_waits(design, converter, work_length, 16 + BEYOND).map(|_| ())
+}
+
+/// Judges, and holds every byte of work and every number of the list against the specification.
+/// After a yes these are the rules' numbers: an until waits for fewer ticks than there are records,
+/// and what isn't one doesn't wait. How long each waits is left to the caller.
+pub fn judged_waits(
+    design: &[u8],
+    converter: &[u8],
+    work_length: usize,
+    list_length: usize,
+) -> Result<Vec<u32>, u8> {
+    let (mut work, mut waits) = (pattern(work_length), numbers(list_length));
+    let answer = checker::judge(design, converter, &mut work, &mut waits);
+    let records = converter.len() / 52;
     let mut expected = pattern(work_length);
     if matches!(answer, Ok(()) | Err(14 | 15)) {
-        expected[..16 * (converter.len() / 52)].fill(0);
+        expected[..16 * records].fill(0);
     }
     assert_eq!(work, expected, "work after {answer:?}");
-    answer
+    let rules: Vec<Formula> = match answer {
+        Ok(()) => {
+            let Design { formulas, rules, .. } = read_design(design)?;
+            rules.iter().map(|&rule| formulas[usize::from(rule)]).collect()
+        }
+        Err(_) => vec![],
+    };
+    assert_eq!(waits[rules.len()..], numbers(list_length)[rules.len()..], "list after {answer:?}");
+    answer?;
+    waits.truncate(rules.len());
+    for (rule, &wait) in rules.iter().zip(&waits) {
+        let right = match rule {
+            Formula::Until(..) => (wait as usize) < records,
+            _ => wait == u32::MAX,
+        };
+        assert!(right, "{wait} of {rule:?} under {records} records");
+    }
+    Ok(waits)
 }
 
 /// Judges with work to spare.

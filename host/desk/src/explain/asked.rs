@@ -32,7 +32,7 @@ pub fn holds_at(
     };
     let bytes = [side_blocks(&sides), design.blocks_of(&[formula])?].concat();
     match library::judge(&bytes, &records) {
-        Ok(()) => Ok(true),
+        Ok(_) => Ok(true),
         Err(Refused::RULE) => Ok(false),
         Err(other) => Err(other),
     }

@@ -9,6 +9,7 @@ pub mod rules;
 pub mod runs;
 pub mod sets;
 pub mod unmatched;
+pub mod waits;
 
 use std::collections::BTreeMap;
 

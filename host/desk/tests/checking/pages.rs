@@ -148,18 +148,52 @@ pub fn usual_page(random: &mut Random, states: usize, rules: usize) -> Page {
     page(&design, sides, &rules)
 }
 
+/// A page whose rules are mostly untils, which wait for what mostly doesn't hold at the start.
+pub fn waiting_page(random: &mut Random, states: usize, most_rules: usize) -> Page {
+    let sides = if random.once_in(4) { SIDES } else { SIDES - 1 };
+    let shape = Shape { sides, states, propositions: 2, ..Shape::SMALL };
+    let design = Design { sides: generate::sides(random, &shape), formulas: vec![], rules: vec![] };
+    let labels: Vec<u8> =
+        (0..sides).flat_map(|side| [16 * side as u8, 16 * side as u8 + 1]).collect();
+    let count = random.from_to(1, most_rules);
+    let rules: Vec<Typed> = (0..count)
+        .map(|_| match random.below(4) {
+            0 => usual_rule(random, &labels),
+            form => {
+                let [a, b, _] = literals(random, &labels);
+                let later = *random.pick(&labels);
+                let start = &design.sides[usize::from(later) / SIDE_LABELS][0];
+                let held = start.label >> (usize::from(later) % SIDE_LABELS) & 1 == 1;
+                let later = Typed::new(Part::Name(later), []);
+                let later = if held { Typed::new(Part::Not, [later]) } else { later };
+                match form {
+                    1 => Typed::new(Part::AF, [later]),
+                    2 => Typed::new(Part::AF, [Typed::new(Part::And, [later, b])]),
+                    _ => Typed::new(Part::AU, [a, Typed::new(Part::Or, [later, b])]),
+                }
+            }
+        })
+        .collect();
+    page(&design, sides, &rules)
+}
+
+/// Three labels, some of them negated.
+fn literals(random: &mut Random, labels: &[u8]) -> [Typed; 3] {
+    from_fn(|_| {
+        let label = Typed::new(Part::Name(*random.pick(labels)), []);
+        if random.once_in(3) {
+            Typed::new(Part::Not, [label])
+        } else {
+            label
+        }
+    })
+}
+
 /// A rule of a form that planners use.
 fn usual_rule(random: &mut Random, labels: &[u8]) -> Typed {
     let one = |part, f| Typed::new(part, [f]);
     let two = |part, f, g| Typed::new(part, [f, g]);
-    let [a, b, c]: [Typed; 3] = from_fn(|_| {
-        let label = Typed::new(Part::Name(*random.pick(labels)), []);
-        if random.once_in(3) {
-            one(Part::Not, label)
-        } else {
-            label
-        }
-    });
+    let [a, b, c] = literals(random, labels);
     match random.below(10) {
         0 => one(Part::AG, a),
         1 => one(Part::AF, a),

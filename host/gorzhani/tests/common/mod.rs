@@ -1,13 +1,15 @@
-//! Lent buffers with guard bytes, and each call of the library held against
-//! the second checker: the answer, and every byte of every buffer.
+//! Lent buffers with guard bytes, a lent list with guard numbers, and each call of the library held
+//! against the second checker: the answer, and every byte and number that is lent.
 
 // Each test file uses some of these.
 #![allow(dead_code)]
 
-use checker::bytes::{positions, read_blocks, read_design, write_blocks, Design, SIDES};
+pub mod graphs;
+
+use checker::bytes::{positions, read_blocks, read_design, write_blocks, Design, Formula, SIDES};
 use checker::generate::{any_design, design, ruled_design, Random, Shape};
 use checker::ranges::like;
-use gorzhani::{Refused, Runner, BLOCK, CELL, RECORD, RULE_BLOCKS};
+use gorzhani::{Refused, Runner, BLOCK, CELL, MOST_RULES, NO_WAIT, RECORD, RULE_BLOCKS};
 
 const GUARD: usize = 64;
 
@@ -65,6 +67,40 @@ impl Lent {
     /// Whether nothing changed.
     pub fn untouched(&self) -> bool {
         self.holds(&[])
+    }
+}
+
+/// A lent list of numbers with guard numbers on both sides, all of them random, and what it held at
+/// first.
+pub struct Numbers {
+    numbers: Vec<u32>,
+    first: Vec<u32>,
+}
+
+impl Numbers {
+    /// A list of this length.
+    pub fn new(random: &mut Random, length: usize) -> Numbers {
+        let number = |_| (random.bits() >> 16) as u32;
+        let numbers: Vec<u32> = (0..length + 2 * GUARD).map(number).collect();
+        Numbers { first: numbers.clone(), numbers }
+    }
+
+    /// The numbers between the guards.
+    pub fn part(&self) -> &[u32] {
+        &self.numbers[GUARD..self.numbers.len() - GUARD]
+    }
+
+    /// The same to be written to.
+    pub fn part_mut(&mut self) -> &mut [u32] {
+        let end = self.numbers.len() - GUARD;
+        &mut self.numbers[GUARD..end]
+    }
+
+    /// Whether the guards and the numbers are as at first, but for `changed` at the front.
+    pub fn holds(&self, changed: &[u32]) -> bool {
+        let mut expected = self.first.clone();
+        expected[GUARD..GUARD + changed.len()].copy_from_slice(changed);
+        self.numbers == expected
     }
 }
 
@@ -136,11 +172,15 @@ fn number<T>(answer: Result<T, Refused>) -> u8 {
     answer.err().map_or(0, |Refused(number)| number)
 }
 
-/// A constant of the C header.
+/// A constant of the C header: of an enum, or a number of 32 bits that is defined.
 pub fn header(name: &str) -> usize {
     let text = include_str!("../../../../include/gorzhani.h");
     let value = text.lines().find_map(|line| {
-        let (left, right) = line.trim().trim_end_matches(',').split_once(" = ")?;
+        let defined = line.strip_prefix("#define ").and_then(|line| line.strip_suffix(')'));
+        let (left, right) = match defined {
+            Some(line) => line.split_once(" UINT32_C(")?,
+            None => line.trim().trim_end_matches(',').split_once(" = ")?,
+        };
         (left == name).then_some(right)
     });
     let value = value.unwrap_or_else(|| panic!("the header has no {name}"));
@@ -211,19 +251,58 @@ pub fn found(bytes: &[u8]) -> Option<Vec<u8>> {
     }
 }
 
-/// Judges by both with lent work of this length.
+/// How many rules the design has that these bytes spell; as many as there may be if they spell none.
+pub fn rule_count(bytes: &[u8]) -> usize {
+    read_design(bytes).map_or(MOST_RULES, |design| design.rules.len())
+}
+
+/// Judges by both with lent work of this length and a list of waits that is long enough.
 pub fn judge_agrees(bytes: &[u8], converter: &[u8], work_length: usize) -> u8 {
+    let spare = (converter.len() + work_length) % 4;
+    waits_agree(bytes, converter, work_length, rule_count(bytes) + spare).err().unwrap_or(0)
+}
+
+/// Judges by both with lent work and a list of waits of these lengths. The waits of the rules, or
+/// the number.
+pub fn waits_agree(
+    bytes: &[u8],
+    converter: &[u8],
+    work_length: usize,
+    waits_length: usize,
+) -> Result<Vec<u32>, u8> {
     let (design, lent) = (Lent::holding(bytes), Lent::holding(converter));
     let mut work = Lent::new(work_length);
-    let answer = gorzhani::judge(design.part(), lent.part(), work.part_mut());
-    let other = checker::judge(bytes, converter, &mut vec![0; work_length]);
+    let seed = converter.iter().map(|&byte| u64::from(byte)).sum::<u64>() + bytes.len() as u64;
+    let mut waits = Numbers::new(&mut Random::new(seed), waits_length);
+    let mut other_waits = waits.part().to_vec();
+    let answer = gorzhani::judge(design.part(), lent.part(), work.part_mut(), waits.part_mut());
+    let other = checker::judge(bytes, converter, &mut vec![0; work_length], &mut other_waits);
     assert!(design.untouched() && lent.untouched());
     assert_eq!(number(answer), other.err().unwrap_or(0), "{:?} {converter:?}", read_design(bytes));
     match number(answer) {
         0 | 14 | 15 => assert!(work.holds(&vec![0; CELL * (converter.len() / RECORD)])),
         _ => assert!(work.untouched()),
     }
-    number(answer)
+    if let Err(Refused(number)) = answer {
+        assert!(waits.holds(&[]), "{number} {:?}", read_design(bytes));
+        return Err(number);
+    }
+    let made = read_design(bytes).expect("a design that is refused isn't judged well");
+    other_waits.truncate(made.rules.len());
+    assert!(waits.holds(&other_waits), "{:?} {other_waits:?} {made:?} {converter:?}", waits.part());
+    waits_right(&made, converter.len() / RECORD, &other_waits);
+    Ok(other_waits)
+}
+
+/// Asks that an until has a wait below the count of records, and every other rule has none.
+fn waits_right(design: &Design, records: usize, waits: &[u32]) {
+    for (&rule, &wait) in design.rules.iter().zip(waits) {
+        let right = match design.formulas[usize::from(rule)] {
+            Formula::Until(..) => (wait as usize) < records,
+            _ => wait == NO_WAIT,
+        };
+        assert!(right, "{rule} {wait} {design:?}");
+    }
 }
 
 /// A call that reads some bytes and writes others, and answers how many parts it wrote.
