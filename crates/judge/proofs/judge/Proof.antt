@@ -12,6 +12,16 @@ use Rattle.judge.proofs.Judging.{Passes, passes, judge-refused, judge-n
 use Rattle.judge.proofs.judge.Statement.{statement}
 use Rattle.judge.proofs.judge.Tie as tie
 
+-- ---- the points of the walk: the entry from where the tests have passed; where they have, from where the verdict is found; and that from where the cells are counted
+abbrev entry : tie.Else1 → tie.Start
+entry ok = let tested = ok .before in tested .before .before .before .before .before
+
+abbrev passing : tie.After-verdict → tie.Else1
+passing found = found .before .before .before
+
+abbrev finding : tie.After-count → tie.After-verdict
+finding counted = let lent = counted .before in lent .before .before .before .before .before
+
 judge-refusal-requires : tie.Need-judge-refusal-requires
 judge-refusal-requires c κs = search needs
 
@@ -22,12 +32,12 @@ returns c =
     judge-refused (a .design .now) (a .converter .now) (a .work .now) (a .waits .now) (tested .judge-refusal .result) (tested .judge-refusal .ensures) (c .if1 .taken)
 
 -- nothing is refused
-none : (c : tie.Else1) → let a = c .before .before .before .before .before .before .args in judge-refusal (a .design .now) (a .converter .now) (length (a .work .now)) (length (a .waits .now)) ≡ 0
+none : (c : tie.Else1) → let a = entry c .args in judge-refusal (a .design .now) (a .converter .now) (length (a .work .now)) (length (a .waits .now)) ≡ 0
 none c = sym (c .before .judge-refusal .ensures) ∙ c .if1 .left
 
-passed : (c : tie.Else1) → let a = c .before .before .before .before .before .before .args in Passes (a .design .now) (a .converter .now) (length (a .work .now)) (length (a .waits .now))
+passed : (c : tie.Else1) → let a = entry c .args in Passes (a .design .now) (a .converter .now) (length (a .work .now)) (length (a .waits .now))
 passed c =
-    let a = c .before .before .before .before .before .before .args in
+    let a = entry c .args in
     passes (a .design .now) (a .converter .now) (length (a .work .now)) (length (a .waits .now)) (none c)
 
 verdict-requires : tie.Need-verdict-requires
@@ -41,13 +51,13 @@ mul-fill c = search needs
 
 fill-requires : tie.Need-fill-requires
 fill-requires c κs =
-    let found = c .before .before .before .before .before .before in
-    omega (arith, c .count .ensures, passed (found .before .before .before) .roomy, found .verdict .kept .1 .1 .0)
+    let found = finding c in
+    omega (arith, c .count .ensures, passed (passing found) .roomy, found .verdict .kept .1 .1 .0)
 
 -- the verdict was found, and the cells are cleared
-cleared : (c : tie.After-fill) → let found = c .before .before .before .before .before .before .before in c .fill .last .0 ≡ put (found .verdict .last .1 .1 .0) 0 (replicate (cell-bytes * records (found .before .before .before .before .before .before .before .before .before .args .converter .now)) 0)
+cleared : (c : tie.After-fill) → let found = finding (c .before) in c .fill .last .0 ≡ put (found .verdict .last .1 .1 .0) 0 (replicate (cell-bytes * records (entry (passing found) .args .converter .now)) 0)
 cleared c =
-    let found = c .before .before .before .before .before .before .before in
+    let found = finding (c .before) in
     c .fill .ensures ∙ ap (λ n. put (found .verdict .last .1 .1 .0) 0 (replicate (cell-bytes * n) 0)) (c .before .count .ensures)
 
 same-length : tie.Need-same-length
@@ -59,11 +69,11 @@ same-length-2 c = search needs
 returns-2 : tie.Need-returns-2
 returns-2 c =
     let filled = c .before .before .before in
-    let found = filled .before .before .before .before .before .before .before in
-    let go = found .before .before .before in
-    let a = go .before .before .before .before .before .before .args in
+    let found = finding (filled .before) in
+    let ok = passing found in
+    let a = entry ok .args in
     let v = found .verdict in
-    judge-no (a .design .now) (a .converter .now) (a .work .now) (a .waits .now) (v .result) (v .last .1 .1 .0) (filled .fill .last .0) (v .last .1 .1 .1 .0) (none go) (v .ensures) (cleared filled) (c .if2 .taken)
+    judge-no (a .design .now) (a .converter .now) (a .work .now) (a .waits .now) (v .result) (v .last .1 .1 .0) (filled .fill .last .0) (v .last .1 .1 .1 .0) (none ok) (v .ensures) (cleared filled) (c .if2 .taken)
 
 same-length-3 : tie.Need-same-length-3
 same-length-3 c = search needs
@@ -74,11 +84,11 @@ same-length-4 c = search needs
 returns-3 : tie.Need-returns-3
 returns-3 c =
     let filled = c .before .before .before in
-    let found = filled .before .before .before .before .before .before .before in
-    let go = found .before .before .before in
-    let a = go .before .before .before .before .before .before .args in
+    let found = finding (filled .before) in
+    let ok = passing found in
+    let a = entry ok .args in
     let v = found .verdict in
-    judge-yes (a .design .now) (a .converter .now) (a .work .now) (a .waits .now) (v .result) (v .last .1 .1 .0) (filled .fill .last .0) (v .last .1 .1 .1 .0) (none go) (v .ensures) (cleared filled) (c .if2 .left)
+    judge-yes (a .design .now) (a .converter .now) (a .work .now) (a .waits .now) (v .result) (v .last .1 .1 .0) (filled .fill .last .0) (v .last .1 .1 .1 .0) (none ok) (v .ensures) (cleared filled) (c .if2 .left)
 
 pub judge-spec : {M : Type 1} → statement M
 judge-spec =
