@@ -2,6 +2,7 @@
 
 // The writer's answer: how many blocks it wrote.
 #[derive(Drop)]
+#[derive(Clone, Copy)]
 pub enum Written {
     Blocks(usize),
     Refused(u8),
@@ -9,6 +10,7 @@ pub enum Written {
 
 // The block reader's answer: how many records it read.
 #[derive(Drop)]
+#[derive(Clone, Copy)]
 pub enum Read {
     Records(usize),
     Refused(u8),

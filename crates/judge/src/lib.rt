@@ -10,6 +10,7 @@ use refusals::{converters, design_tests};
 
 // Yes, or a refusal's number.
 #[derive(Drop)]
+#[derive(Clone, Copy)]
 pub enum Verdict {
     Yes,
     Refused(u8),

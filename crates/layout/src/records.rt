@@ -9,6 +9,7 @@ use crate::{events, sizes, words};
 
 // A transition place of a converter record: an event for each side, and the next record.
 #[derive(Drop)]
+#[derive(Clone, Copy)]
 pub struct Transition {
     pub events: [i8; sizes::SIDES],
     pub next: u16,
@@ -16,6 +17,7 @@ pub struct Transition {
 
 // The state of each side that the record names, and its transitions.
 #[derive(Drop)]
+#[derive(Clone, Copy)]
 pub struct Record {
     pub names: [u8; sizes::SIDES],
     pub count: u8,
@@ -23,6 +25,7 @@ pub struct Record {
 }
 
 #[derive(Drop)]
+#[derive(Clone, Copy)]
 pub enum Outcome {
     Added,
     // The events are there already.
@@ -33,6 +36,7 @@ pub enum Outcome {
 
 // The record as it is after an addition.
 #[derive(Drop)]
+#[derive(Clone, Copy)]
 pub struct Addition {
     pub outcome: Outcome,
     pub left: Record,

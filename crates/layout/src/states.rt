@@ -9,12 +9,14 @@ use crate::{events, sizes, words};
 
 // A transition place of a state.
 #[derive(Drop)]
+#[derive(Clone, Copy)]
 pub struct Place {
     pub event: i8,
     pub target: u8,
 }
 
 #[derive(Drop)]
+#[derive(Clone, Copy)]
 pub struct StateRecord {
     pub label: u16,
     pub count: u8,

@@ -48,11 +48,11 @@ module _ {A : Type 0} (p : A → Bool) (d : A) where
         | yes y ↦
             let more : tally p (x ∷ xs) ≡ suc (tally p xs) = tally_yes x xs y in
             let rest : tally p xs ≡ 0 = omega arith in
-            (0, omega arith, y, λ k. elim k [ zero ↦ λ h t. refl | suc j ↦ λ h t. absurd (none_passes xs rest j (omega arith) t) ])
+            (0, omega arith, y, λ k. elim k as (λ k. k < length (x ∷ xs) → T (p (get_or (x ∷ xs) k d)) → k ≡ 0) [ zero ↦ λ h t. refl | suc j ↦ λ h t. absurd (none_passes xs rest j (omega arith) t) ])
         | no n ↦
             let w = tally_one xs (sym (tally_no x xs n) ∙ e) in
             let h : w.0 < length xs = w.1 in
-            (suc w.0, omega arith, w.2, λ k. elim k [ zero ↦ λ h t. absurd (n t) | suc j ↦ λ h t. ap suc (w.3 j (omega arith) t) ])
+            (suc w.0, omega arith, w.2, λ k. elim k as (λ k. k < length (x ∷ xs) → T (p (get_or (x ∷ xs) k d)) → k ≡ suc w.0) [ zero ↦ λ h t. absurd (n t) | suc j ↦ λ h t. ap suc (w.3 j (omega arith) t) ])
       ]
 
   pub one_tally : (l : List A) (j : ℕ) → j < length l → T (p (get_or l j d)) → ((k : ℕ) → k < length l → T (p (get_or l k d)) → k ≡ j) → tally p l ≡ 1

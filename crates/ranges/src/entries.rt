@@ -13,6 +13,7 @@ pub const NO_GREATEST: u8 = 255;
 
 // How often a state of a side may wait.
 #[derive(Drop)]
+#[derive(Clone, Copy)]
 pub struct Entry {
     pub side: u8,
     pub state: u8,

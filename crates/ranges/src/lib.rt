@@ -12,6 +12,7 @@ use refusals::design_tests;
 
 // "Done", or a refusal's number.
 #[derive(Drop)]
+#[derive(Clone, Copy)]
 pub enum Answer {
     Done,
     Refused(u8),

@@ -27,6 +27,7 @@ fn length_right(s: &[u8]) -> bool
 
 // What is asked of a block: its kind, and the limits of its record count.
 #[derive(Drop)]
+#[derive(Clone, Copy)]
 struct Asked {
     kind: usize,
     least: usize,

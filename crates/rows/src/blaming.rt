@@ -15,6 +15,7 @@ const SIXTEEN: [u8; 16] = [26, 17, 8, 8, 26, 35, 8, 17, 26, 35, 8, 8, 17, 17, 26
 
 // An answer as two numbers: the call's, and the place.
 #[derive(Drop)]
+#[derive(Clone, Copy)]
 struct Said(u64, u64);
 
 fn numbers(a: quick::Outcome) -> Said {

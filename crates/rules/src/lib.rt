@@ -13,6 +13,7 @@ use lines::Outcome;
 
 // The count of rules, or a refusal's number.
 #[derive(Drop)]
+#[derive(Clone, Copy)]
 pub enum Answer {
     Rules(usize),
     Refused(u8),

@@ -14,6 +14,7 @@ pub const MOST_DEPTH: usize = 32;
 
 // The rules of a text: how many there are, how many records they have, and the worst of their grades.
 #[derive(Drop)]
+#[derive(Clone, Copy)]
 pub struct Text {
     pub rules: usize,
     pub count: usize,
@@ -21,6 +22,7 @@ pub struct Text {
 }
 
 #[derive(Drop)]
+#[derive(Clone, Copy)]
 pub enum Outcome {
     Read(Text),
     Wrong,

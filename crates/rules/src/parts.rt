@@ -9,6 +9,7 @@ use tokens::Quantifier;
 
 // What 20 says of a part: it has no temporal part, it has some, or it is refused.
 #[derive(Drop)]
+#[derive(Clone, Copy)]
 pub enum Grade {
     Plain,
     Temporal,
@@ -17,6 +18,7 @@ pub enum Grade {
 
 // A part that was read: the place behind it, how many records there are then, and its grade. Its last record is the last of these.
 #[derive(Drop)]
+#[derive(Clone, Copy)]
 pub struct Part {
     pub next: usize,
     pub count: usize,
@@ -24,6 +26,7 @@ pub struct Part {
 }
 
 #[derive(Drop)]
+#[derive(Clone, Copy)]
 pub enum Outcome {
     Read(Part),
     Wrong,

@@ -15,6 +15,7 @@ use refusals::converters;
 // What a host lends: the number of a record, and the events last delivered to the sides.
 #[repr(C)]
 #[derive(Drop)]
+#[derive(Clone, Copy)]
 pub struct Runner {
     pub record: u16,
     pub first: i8,
@@ -37,6 +38,7 @@ impl Runner {
 
 // "done", or a refusal's number.
 #[derive(Drop)]
+#[derive(Clone, Copy)]
 pub enum Answer {
     Done,
     Refused(u8),
@@ -44,6 +46,7 @@ pub enum Answer {
 
 // The answer, and the runner as the tick leaves it.
 #[derive(Drop)]
+#[derive(Clone, Copy)]
 pub struct Ticked {
     pub answer: Answer,
     pub runner: Runner,

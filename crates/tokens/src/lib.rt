@@ -8,6 +8,7 @@ use layout::sizes;
 
 // On every path, or on some path.
 #[derive(Drop)]
+#[derive(Clone, Copy)]
 pub enum Quantifier {
     All,
     Some,
@@ -15,6 +16,7 @@ pub enum Quantifier {
 
 // At the next step, at every step, at some step.
 #[derive(Drop)]
+#[derive(Clone, Copy)]
 pub enum Operator {
     Next,
     Always,
@@ -22,6 +24,7 @@ pub enum Operator {
 }
 
 #[derive(Drop)]
+#[derive(Clone, Copy)]
 pub enum Token {
     // p0 to p47
     Name(u8),
@@ -57,6 +60,7 @@ pub enum Token {
 
 // A token, and the place behind it.
 #[derive(Drop)]
+#[derive(Clone, Copy)]
 pub struct Found {
     pub token: Token,
     pub next: usize,
