@@ -1,0 +1,11 @@
+use Rattle.std.proofs.Common.{◌≡◌, ◌+◌, ◌-◌, ◌≤◌, length, set, replicate, sym, ap, ◌∙◌, arith, rules}
+use lib.ListN.{length-replicate}
+use Rattle.layout.specs.Bytes.{put}
+use Rattle.layout.proofs.Put.{put_nil, fill_next, length_put}
+use Rattle.layout.proofs.ranges.fill.Given as goal
+
+abbrev pub invariant-loop-i : goal.invariant-loop-i
+invariant-loop-i l = (l.i ≤ l.n) × (l.s ≡ put l.initial.s l.at (replicate l.i l.v))
+
+abbrev pub decreases-loop-i : goal.decreases-loop-i
+decreases-loop-i l = l.n - l.i

@@ -1,0 +1,11 @@
+use Rattle.std.proofs.Common.{◌+◌, ◌-◌, ◌≤◌, refl, arith, rules}
+use Rattle.layout.specs.Sizes.{side_count}
+use Rattle.layout.specs.Bytes.{byte}
+use Rattle.layout.proofs.Tables.{FilledTo, filled_none, filled_more, filled_all}
+use Rattle.layout.proofs.records.read_names.Given as goal
+
+abbrev pub invariant-loop-i : goal.invariant-loop-i
+invariant-loop-i l = (l.i ≤ side_count) × FilledTo 0 (λ j. byte l.s (l.at + j)) side_count l.i l.names
+
+abbrev pub decreases-loop-i : goal.decreases-loop-i
+decreases-loop-i l = side_count - l.i

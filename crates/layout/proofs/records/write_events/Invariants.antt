@@ -1,0 +1,15 @@
+use Rattle.std.proofs.Common.{◌≡◌, ℕ, ◌+◌, ◌-◌, ◌≤◌, length, get_or, set, sym, ap, ◌∙◌, ap₂, arith, rules}
+use Rattle.model.specs.Events.{tick}
+use Rattle.layout.specs.Sizes.{side_count}
+use Rattle.layout.specs.Tables.{table, table_from}
+use Rattle.layout.specs.Bytes.{put, event_byte}
+use Rattle.layout.proofs.SignedBytes.{read_back}
+use Rattle.layout.proofs.Tables.{length_table}
+use Rattle.layout.proofs.Put.{put_nil, put_table_next, length_put}
+use Rattle.layout.proofs.records.write_events.Given as goal
+
+abbrev pub invariant-loop-i : goal.invariant-loop-i
+invariant-loop-i l = (l.i ≤ side_count) × (l.s ≡ put l.initial.s l.at (table l.i (λ j. event_byte (get_or l.written j tick))))
+
+abbrev pub decreases-loop-i : goal.decreases-loop-i
+decreases-loop-i l = side_count - l.i

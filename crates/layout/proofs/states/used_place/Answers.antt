@@ -1,0 +1,10 @@
+-- `states::used_place` meets its contract.
+use Rattle.std.proofs.Common.{sym, arith, rules}
+use Rattle.layout.proofs.RecordMoves.{move_at, move_past}
+use Rattle.layout.proofs.states.used_place.Goals as goal
+
+pub returns-then-k-n : goal.returns-then-k-n
+returns-then-k-n c = sym (move_at c.args.q c.args.k (omega arith))
+
+pub returns : goal.returns
+returns c = sym (move_past c.args.q c.args.k (omega arith))
