@@ -57,7 +57,7 @@ unfolding ranged ranges_to table table_from flatten
 loop_holds c =
     let s = begun (old-put c) in
     let S = side (design s.args.d.now) s.args.i in
-    let few = (accepted_counts _ s.pre.0).few-states s.args.i s.pre.3 in
+    let few = (accepted_counts _ s.pre.0).few_states s.args.i s.pre.3 in
     let put-old = (old-put c).old-states.ensures in
     let b = s.args.s.now in (
       search rules,
@@ -120,7 +120,7 @@ module _ (c : tie.Then1 invariant-loop decreases-loop) where
   own-there = of_entry named
 
   own-few : e.state < most_states
-  own-few = omega (arith, own-there, (accepted_counts ds (started here).pre.0).few-states i (started here).pre.3)
+  own-few = omega (arith, own-there, (accepted_counts ds (started here).pre.0).few_states i (started here).pre.3)
 
   own-yet : e.state < here.loop.n
   own-yet = omega (arith, here.loop.inv.1, of_entry named_yet)

@@ -45,7 +45,7 @@ there : (c : tie.In-loop invariant-loop decreases-loop) → (c.before.loop.k < l
 there c =
     let s = started c.before in
     let h : c.before.loop.k < length (old-side c.before) = omega (arith, c.before.before.state-count.ensures) in
-    (h, omega (arith, (accepted_counts s.args.d.now s.pre.0).few-states s.args.i s.pre.1))
+    (h, omega (arith, (accepted_counts s.args.d.now s.pre.0).few_states s.args.i s.pre.1))
 
 mul-write-state : tie.Need-overflow-mul-write-state invariant-loop decreases-loop
 mul-write-state c = record { fits = omega (arith, (there c.before).1) }

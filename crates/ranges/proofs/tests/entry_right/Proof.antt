@@ -60,7 +60,7 @@ state-there c = omega (arith, c.before.state-count.ensures)
 side-state-requires : tie.Need-side-state-requires
 side-state-requires c κs =
     let few = accepted_counts _ (started c).pre in
-    (few.whole, side-there c, omega (arith, state-there c, few.few-states (entry c).side (side-there c)))
+    (few.whole, side-there c, omega (arith, state-there c, few.few_states (entry c).side (side-there c)))
 
 waits-itself-requires : tie.Need-waits-itself-requires
 waits-itself-requires c κs = search rules

@@ -33,7 +33,7 @@ loop_holds : tie.Need-loop-init invariant-loop decreases-loop
 loop_holds c =
     let start = c.before.before.before.before in
     let a = start.args in
-    let few = (accepted_counts _ start.requires.0).few-states a.i start.requires.1 in
+    let few = (accepted_counts _ start.requires.0).few_states a.i start.requires.1 in
     let n = c.state-count.ensures in
     (search rules, omega arith, n ∙ sym (ap length (with_none (side (design a.d.now) a.i) a.list.now a.i)))
 

@@ -34,7 +34,7 @@ loop_holds c = (search rules, λ j h. absurd (not-suc-le-zero h))
 formula-requires : tie.Need-formula-requires invariant-loop decreases-loop
 formula-requires c κs =
     let a = c.before.before.before.before in
-    (a.requires.whole, omega (arith, counted c.before.before, a.requires.few-formulas))
+    (a.requires.whole, omega (arith, counted c.before.before, a.requires.few_formulas))
 
 is-right-requires : tie.Need-is-right-requires invariant-loop decreases-loop
 is-right-requires c κs = search rules

@@ -30,7 +30,7 @@ counted : (c : tie.After-formula-count invariant-loop decreases-loop) → c.form
 counted c = c.formula-count.ensures
 
 few : (c : tie.After-formula-count invariant-loop decreases-loop) → c.formula-count.result ≤ most_formulas
-few c = let start = c.before.before.before in omega (arith, counted c, start.requires.few-formulas)
+few c = let start = c.before.before.before in omega (arith, counted c, start.requires.few_formulas)
 
 -- the block is there
 fits : (c : tie.After-formula-count invariant-loop decreases-loop) → c.before.formulas-at.result + block_bytes ≤ length c.before.before.before.args.s.now

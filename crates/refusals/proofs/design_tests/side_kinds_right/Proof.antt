@@ -48,7 +48,7 @@ turn c = c.before.before
 side-state-requires : tie.Need-side-state-requires invariant-loop decreases-loop
 side-state-requires c κs =
     let a = started c.before in
-    (a.pre.0.whole, a.pre.1, omega (arith, counted c.before.before, a.pre.0.few-states a.args.i a.pre.1))
+    (a.pre.0.whole, a.pre.1, omega (arith, counted c.before.before, a.pre.0.few_states a.args.i a.pre.1))
 
 -- state k is there, and it has at most eight transitions
 there : (c : tie.In-loop invariant-loop decreases-loop) → c.before.loop.k < length (tested-side c.before)

@@ -36,7 +36,7 @@ loop_holds c = (search rules, λ j h. absurd (not-suc-le-zero h))
 side-state-requires : tie.Need-side-state-requires invariant-loop decreases-loop
 side-state-requires c κs =
     let a = c.before.before.before.before in
-    (a.requires.0.whole, a.requires.1, omega (arith, counted c.before.before, a.requires.0.few-states a.args.i a.requires.1))
+    (a.requires.0.whole, a.requires.1, omega (arith, counted c.before.before, a.requires.0.few_states a.args.i a.requires.1))
 
 state-right-requires : tie.Need-state-right-requires invariant-loop decreases-loop
 state-right-requires c κs = search rules

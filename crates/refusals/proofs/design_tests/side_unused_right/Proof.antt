@@ -32,7 +32,7 @@ counted : (c : tie.After-state-count invariant-loop decreases-loop) → c.state-
 counted c = c.state-count.ensures
 
 few : (c : tie.After-state-count invariant-loop decreases-loop) → c.state-count.result ≤ 16
-few c = let a = c.before.before in omega (arith, counted c, a.requires.0.few-states a.args.i (side-there a))
+few c = let a = c.before.before in omega (arith, counted c, a.requires.0.few_states a.args.i (side-there a))
 
 state-count-requires : tie.Need-state-count-requires invariant-loop decreases-loop
 state-count-requires c κs = (c.before.requires.0.whole, side-there c.before)
