@@ -1,4 +1,6 @@
 // The words and signs of a text of typed rules. Spaces may stand around each; letters and digits that touch are one word.
+#![tactic(auto)]
+
 ghost use Rattle.std.specs.Prelude.{◌≡◌, ◌+◌, ◌≤◌, ◌<◌, length, drop};
 ghost use Rattle.layout.specs.Bytes.{part};
 ghost use Rattle.tokens.specs.Tokens.{worded, letter_of, operator_of, name_of, pair_of, triple_of, true_of, false_of, word_of, sign_of, arrow};
