@@ -1,9 +1,7 @@
 -- Specification, "Rules as people type them": what a typed rule means, over infinite paths of a transition system, with ! and -> as they stand (Clarke, Emerson).
-use Rattle.std.specs.Prelude.{Bool, ◌||◌, ◌⊎◌, ℕ, ◌<◌, T}
+use Rattle.std.specs.Prelude.{◌⊎◌, ℕ, ◌<◌, T}
 use Rattle.model.specs.Actl.{System, Path}
-use Rattle.tokens.specs.declared.Quantifier.{Quantifier}
 use Rattle.tokens.specs.declared.Quantifier.TheVariants.{All, Some}
-use Rattle.tokens.specs.declared.Operator.{Operator}
 use Rattle.tokens.specs.declared.Operator.TheVariants.{Next, Always, Eventually}
 use Rattle.typed.specs.Grammar.{Typed, named, constant, negated, along, until, and, or, implies}
 

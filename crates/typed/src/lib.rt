@@ -1,1 +1,3 @@
+#![tactic(auto)]
+
 // Typed rules: no code, but what texts of them read as, and what they mean.
