@@ -5,8 +5,8 @@ use mathlib.Core.List.{List, [], ◌∷◌, ◌++◌, flatten}
 use Prim.Native.Nat.{ℕ, ◌%◌, ◌<◌}
 use native.Mathlib.Nat.{mod-eq_of_lt}
 use native.Mathlib.Omega.{arith}
-use types.Run.{OneOf, miss}
 use Rattle.tokens.specs.declared.Found.{Found}
+use Rattle.tokens.specs.declared.Quantifier.{Quantifier}
 use Rattle.tokens.specs.declared.Token.{Token}
 use Rattle.tokens.specs.declared.Token.TheVariants.{Name, True, False, Not, Temporal, Path, Until, And, Or, Implies, Open, Close, OpenSquare, CloseSquare, Line, End, Wrong}
 use Rattle.tokens.specs.Tokens.{scanned}
@@ -22,7 +22,6 @@ use Rattle.rules.specs.Making.{front}
 use Rattle.rules.specs.Grades.{grade}
 use Rattle.rules.specs.Reading.{Leaf, Nothing, Reading, is_prefix}
 use Rattle.rules.proofs.Places.{stands, spelled_on}
-use Rattle.rules.proofs.Tags.{tag}
 
 module _ {text : List ℕ} {room at height count : ℕ} {found : Found} {rs ps : List ℕ} {p : Part} {rs' : List ℕ} (s : Scans text at found) where
   -- a part of one token and one record
@@ -63,23 +62,27 @@ module _ {text : List ℕ} {room at height count : ℕ} {found : Found} {rs ps :
   unfolding grade pushed size records forms_to form_to flatten
   false_read e x = one_token (constant false) by_false refl refl refl refl e x
 
--- the numbers of the tokens that are no name, no constant, no path and no (
-abbrev others : List ℕ
-others = 3 ∷ 4 ∷ 6 ∷ 7 ∷ 8 ∷ 9 ∷ 11 ∷ 12 ∷ 13 ∷ 14 ∷ 15 ∷ 16 ∷ []
+-- the token is no name, no constant, no path and no (
+pub record Other (t : Token) : Type 0 where
+  pub no_name : (i : ℕ) → t ≡ Name i → ⊥
+  pub no_true : t ≡ True → ⊥
+  pub no_false : t ≡ False → ⊥
+  pub no_path : (q : Quantifier) → t ≡ Path q → ⊥
+  pub no_open : t ≡ Open → ⊥
 
--- with these, where they are no prefixes, no closest part begins
-begins_none : (t : Token) → is_prefix t ≡ false → OneOf others (tag t) → begins t ≡ false
-begins_none (Name p) e o = absurd (miss others 0 tt o)
-begins_none True e o = absurd (miss others 1 tt o)
-begins_none False e o = absurd (miss others 2 tt o)
+-- with such, where they are no prefixes, no closest part begins
+begins_none : (t : Token) → is_prefix t ≡ false → Other t → begins t ≡ false
+begins_none (Name i) e o = absurd (o.no_name i refl)
+begins_none True e o = absurd (o.no_true refl)
+begins_none False e o = absurd (o.no_false refl)
 begins_none Not e o = absurd (true≢false e)
 begins_none (Temporal q p) e o = absurd (true≢false e)
-begins_none (Path q) e o = absurd (miss others 5 tt o)
+begins_none (Path q) e o = absurd (o.no_path q refl)
 begins_none Until e o = refl
 begins_none And e o = refl
 begins_none Or e o = refl
 begins_none Implies e o = refl
-begins_none Open e o = absurd (miss others 10 tt o)
+begins_none Open e o = absurd (o.no_open refl)
 begins_none Close e o = refl
 begins_none OpenSquare e o = refl
 begins_none CloseSquare e o = refl
@@ -88,6 +91,6 @@ begins_none End e o = refl
 begins_none Wrong e o = refl
 
 -- so none stands where one of them does
-pub none_read : {room : ℕ} {s : List ℕ} {t : Token} → t ≡ (scanned s).token → is_prefix (scanned s).token ≡ false → OneOf others (tag t) → Nothing closest room s
-none_read {s = s} {t} e n o f s' (a_closest d x) =
-    true≢false (sym (begun x) ∙ ap begins (sym d) ∙ begins_none (scanned s).token n (subst (λ (u : Token). OneOf others (tag u)) e o))
+pub none_read : {room : ℕ} {s : List ℕ} {t : Token} → t ≡ (scanned s).token → is_prefix (scanned s).token ≡ false → Other t → Nothing closest room s
+none_read {t = t} e n o f s' (a_closest d x) =
+    true≢false (sym (begun x) ∙ ap begins (sym d) ∙ ap begins (sym e) ∙ begins_none t (ap is_prefix e ∙ n) o)

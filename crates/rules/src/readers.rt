@@ -35,7 +35,7 @@ fn leaf(records: &mut [u8], count: usize, kind: u8, a: u8, next: usize) -> Part
 }
 
 // A rule in round brackets, of which the first stands at `at`.
-#[cycle(read_atom_read_bracketed_read_closest_read_conjunction_read_disjunction_read_implication_read_until)]
+#[cycle(reading)]
 fn read_bracketed(
     text: &[u8],
     at: usize,
@@ -77,7 +77,7 @@ fn read_bracketed(
 }
 
 // A [ f U g ] or E [ f U g ], of which the first word stands at `at`.
-#[cycle(read_atom_read_bracketed_read_closest_read_conjunction_read_disjunction_read_implication_read_until)]
+#[cycle(reading)]
 fn read_until(
     text: &[u8],
     at: usize,
@@ -142,7 +142,7 @@ fn read_until(
 }
 
 // A closest part without prefixes.
-#[cycle(read_atom_read_bracketed_read_closest_read_conjunction_read_disjunction_read_implication_read_until)]
+#[cycle(reading)]
 fn read_atom(
     text: &[u8],
     at: usize,
@@ -168,7 +168,7 @@ fn read_atom(
 }
 
 // Prefixes and what they stand before.
-#[cycle(read_atom_read_bracketed_read_closest_read_conjunction_read_disjunction_read_implication_read_until)]
+#[cycle(reading)]
 fn read_closest(
     text: &[u8],
     at: usize,
@@ -200,7 +200,7 @@ fn read_closest(
 }
 
 // Closest parts joined by &.
-#[cycle(read_atom_read_bracketed_read_closest_read_conjunction_read_disjunction_read_implication_read_until)]
+#[cycle(reading)]
 fn read_conjunction(
     text: &[u8],
     at: usize,
@@ -234,7 +234,7 @@ fn read_conjunction(
 }
 
 // Conjunctions joined by |.
-#[cycle(read_atom_read_bracketed_read_closest_read_conjunction_read_disjunction_read_implication_read_until)]
+#[cycle(reading)]
 fn read_disjunction(
     text: &[u8],
     at: usize,
@@ -269,7 +269,7 @@ fn read_disjunction(
 }
 
 // Disjunctions joined by ->. The left ones are negated, and wait for what stands behind them.
-#[cycle(read_atom_read_bracketed_read_closest_read_conjunction_read_disjunction_read_implication_read_until)]
+#[cycle(reading)]
 pub fn read_implication(
     text: &[u8],
     at: usize,

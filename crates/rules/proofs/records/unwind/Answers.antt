@@ -8,15 +8,8 @@ use lib.ListN.{length}
 use Rattle.layout.specs.Sizes.{most_formulas}
 use Rattle.rules.specs.Making.{record_room, front, Closed, Unwound, entries, closing, entry, unwound}
 use Rattle.rules.proofs.Pile.{unwound_first}
-use Rattle.rules.proofs.records.unwind.Statement.{statement}
-use Rattle.rules.proofs.records.unwind.Tie as tie
-
-record Unwinding (rs₀ ps : List ℕ) (base height count : ℕ) (rs : List ℕ) (h n : ℕ) : Type 0 where
-  long : length rs ≡ record_room
-  above : base ≤ h
-  below : h ≤ height
-  counted : n ≡ count + (height - h)
-  made : count + height ≤ most_formulas → front rs n ≡ front rs₀ count ++ unwound count (entries ps h (height - h))
+use Rattle.rules.proofs.records.unwind.Invariants.{Unwinding}
+use Rattle.rules.proofs.records.unwind.Goals as goal
 
 at_first : (rs ps : List ℕ) (base height count : ℕ) → length rs ≡ record_room → base ≤ height → Unwinding rs ps base height count rs height count
 unfolding entries unwound
@@ -59,64 +52,27 @@ at_last {rs₀} {ps} {rs} {base} {height} {count} {h} {n} l u =
     let e : h ≡ base = omega arith in
     record { counted = omega arith; made = λ f. u.made f ∙ ap (λ (i : ℕ). front rs₀ count ++ unwound count (entries ps i (height - i))) e }
 
-abbrev invariant-loop : tie.invariant-loop
-invariant-loop records₀ pending base height count h₀ n₀ records h n = Unwinding records₀ pending base height count records h n
-
-abbrev decreases-loop : tie.decreases-loop
-decreases-loop records₀ pending base height count h₀ n₀ records h n = h
-
-loop_holds : tie.Need-loop-init invariant-loop decreases-loop
-loop_holds c =
-    let a = c.before.before.args in
+pub loop-h-init : goal.loop-h-init
+loop-h-init c =
+    let a = c.args in
     at_first a.records.now a.pending.now a.base a.height a.count (search rules) (search rules)
 
--- the points of the walk: the start, and the head of the loop
-abbrev started : tie.At-loop invariant-loop decreases-loop → tie.Start invariant-loop decreases-loop
-started c = c.before.before.before
-
-abbrev turning : tie.After-slice-known2 invariant-loop decreases-loop → tie.At-loop invariant-loop decreases-loop
-turning c = c.before.before.before.before.before
-
-sub-h : tie.Need-overflow-sub-h invariant-loop decreases-loop
-sub-h c = omega arith
-
-close-requires : tie.Need-close-requires invariant-loop decreases-loop
-close-requires c κs =
-    let u = c.before.before.loop.invariant in
-    let pre = (started c.before.before).pre in
+pub close-requires : goal.close-requires
+close-requires c =
+    let u = c.loop-h.invariant in
+    let pre = c.requires in
     (u.long, pre.1, omega (arith, u.counted, pre.2))
 
-add-n : tie.Need-overflow-add-n invariant-loop decreases-loop
-add-n c =
-    let u = (turning c).loop.invariant in
-    let pre = (started (turning c)).pre in
+pub overflow_add-n : goal.overflow_add-n
+overflow_add-n c =
+    let u = c.loop-h.invariant in
+    let pre = c.requires in
     omega (arith, u.counted, u.above, u.below, pre.3, pre.4)
 
-loop_less : tie.Need-loop-smaller invariant-loop decreases-loop
-loop_less c = omega arith
+pub loop-h-preserved : goal.loop-h-preserved
+loop-h-preserved c =
+    let closed = c.close in
+    one_more closed.new.records (omega arith) closed.auto.records closed.ensures c.loop-h.invariant
 
-loop_again : tie.Need-loop-preserved invariant-loop decreases-loop
-loop_again c =
-    let closed = c.before.before.close in
-    one_more closed.new.0 (omega arith) closed.auto.0 closed.ensures (turning c).loop.invariant
-
-same_length : tie.Need-same-length invariant-loop decreases-loop
-same_length c = c.before.loop.invariant.long ∙ sym (started c.before).pre.0
-
-returns : tie.Need-returns invariant-loop decreases-loop
-returns c = at_last c.loop-test.false c.before.loop.invariant
-
-pub unwind-spec : {M : Type 1} → statement M
-unwind-spec =
-    tie.close
-    (tie.spec
-    invariant-loop
-    decreases-loop
-    loop_holds
-    sub-h
-    close-requires
-    add-n
-    loop_less
-    loop_again
-    same_length
-    returns)
+pub returns : goal.returns
+returns c = at_last c.loop-h-test.false c.loop-h.invariant
