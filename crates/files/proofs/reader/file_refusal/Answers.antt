@@ -1,0 +1,84 @@
+-- `files::file_refusal` meets its contract. The invariant: `first` is the first refusal by the record count and the first k blocks.
+use mathlib.Core.Path.{◌≡◌, refl, sym, ap, ap₂, ◌∙◌}
+use mathlib.Core.Bool.{true, cond}
+use mathlib.Core.List.{List, [], ◌∷◌, ◌++◌}
+use Prim.Native.Nat.{ℕ}
+use native.Mathlib.Omega.{arith}
+use borrow.Author.Rules.{rules}
+use Rattle.model.specs.Judged.{all}
+use Rattle.files.specs.Files.{blocks, file_block, file_records}
+use Rattle.refusals.specs.Refusals.{Test, first_failing, block_tests, records_right}
+use Rattle.files.specs.FileRefusals.{earlier, file_size_right, file_tests}
+use Rattle.refusals.proofs.Passing.{passes_on, refused_first, refused_later}
+use Rattle.files.proofs.FileSizes.{sized}
+use Rattle.files.proofs.FileTests.{so_far, start, next, whole, end, blocks_pass, count_fits}
+use Rattle.files.proofs.reader.file_refusal.Goals as goal
+use Rattle.files.proofs.reader.file_refusal.Goals.{After-loop-k, Else-not-file_size_right}
+
+-- the size is right
+size-passed : (c : Else-not-file_size_right) → file_size_right c.args.s.now ≡ true
+size-passed c = sym c.file_size_right.ensures ∙ c.if-not-file_size_right.false
+
+-- after the loop all blocks are tested
+found : (c : After-loop-k) → c.loop-k.first ≡ first_failing (whole c.args.s.now)
+found c =
+    let f = c.args.s.now in
+    let e : c.loop-k.k ≡ blocks f = omega (arith, c.block_count-n.ensures) in
+    c.loop-k.invariant.1 ∙ ap (λ k. first_failing (so_far f k)) e ∙ ap first_failing (end f)
+
+-- behind them stands the test of the records
+abbrev rest : List ℕ → List Test
+rest bs = record { number = 11; passes = records_right (file_records bs) } ∷ []
+
+later : (f : List ℕ) → file_size_right f ≡ true → first_failing (whole f) ≡ 0 → first_failing (file_tests f) ≡ first_failing (rest f)
+unfolding all
+later f s e =
+    passes_on record { number = 1; passes = file_size_right f } (whole f ++ rest f) s
+    ∙ refused_later (whole f) (rest f) refl e
+
+pub returns-then-not-file_size_right : goal.returns-then-not-file_size_right
+unfolding first_failing
+returns-then-not-file_size_right c = rw (sym c.file_size_right.ensures ∙ c.if-not-file_size_right.true)
+
+pub count_refusal-first-requires : goal.count_refusal-first-requires
+count_refusal-first-requires c = size-passed (goal.at.count_refusal-first-requires c).Else-not-file_size_right
+
+pub loop-k-init : goal.loop-k-init
+loop-k-init c = (search rules, c.count_refusal-first.ensures ∙ start c.args.s.now)
+
+pub block_refusal-requires : goal.block_refusal-requires
+block_refusal-requires c = (
+  c.loop-k-test.true,
+  omega (arith, c.block_count-n.ensures, (sized c.args.s.now (size-passed (goal.at.block_refusal-requires c).Else-not-file_size_right)).at_most),
+  omega (arith, c.block_count-n.ensures, (sized c.args.s.now (size-passed (goal.at.block_refusal-requires c).Else-not-file_size_right)).whole),
+)
+
+pub loop-k-preserved : goal.loop-k-preserved
+loop-k-preserved c = (
+  search rules,
+  c.earlier-first.ensures
+      ∙ ap₂ earlier c.loop-k.invariant.1 (c.block_refusal.ensures ∙ ap (λ n. first_failing (block_tests c.args.s.now (file_block n c.loop-k.k))) c.block_count-n.ensures)
+      ∙ next c.args.s.now c.loop-k.k,
+)
+
+pub returns-then-first-ne0 : goal.returns-then-first-ne0
+returns-then-first-ne0 c =
+    let f = c.args.s.now in
+    found (goal.at.returns-then-first-ne0 c).After-loop-k
+    ∙ sym (passes_on record { number = 1; passes = file_size_right f } (whole f ++ rest f) (size-passed (goal.at.returns-then-first-ne0 c).Else-not-file_size_right) ∙ refused_first (whole f) (rest f) (λ z. c.if-first-ne0.true (found (goal.at.returns-then-first-ne0 c).After-loop-k ∙ z)))
+
+pub file_records_right-requires : goal.file_records_right-requires
+file_records_right-requires c =
+    let f = c.args.s.now in
+    let b = blocks_pass f (sym (found (goal.at.file_records_right-requires c).After-loop-k) ∙ c.if-first-ne0.false) in
+    (size-passed (goal.at.file_records_right-requires c).Else-not-file_size_right, b.few_records, count_fits f (sized f (size-passed (goal.at.file_records_right-requires c).Else-not-file_size_right)) b)
+
+pub returns-then-not-file_records_right : goal.returns-then-not-file_records_right
+unfolding first_failing
+returns-then-not-file_records_right c =
+    sym (later c.args.s.now (size-passed (goal.at.returns-then-not-file_records_right c).Else-not-file_size_right) (sym (found (goal.at.returns-then-not-file_records_right c).After-loop-k) ∙ c.if-first-ne0.false) ∙ ap (λ b. cond b 0 11) (sym c.file_records_right.ensures ∙ c.if-not-file_records_right.true))
+
+pub returns : goal.returns
+unfolding first_failing
+returns c =
+    sym (later c.args.s.now (size-passed (goal.at.returns c).Else-not-file_size_right) (sym (found (goal.at.returns c).After-loop-k) ∙ c.if-first-ne0.false) ∙ ap (λ b. cond b 0 11) (sym c.file_records_right.ensures ∙ c.if-not-file_records_right.false))
