@@ -11,23 +11,19 @@ use std::time::Duration;
 
 use common::{root, run, Called, Folder};
 
-/// Proves one crate after the other, each for as long as the file `slow` says, and keeps a file meanwhile as the toolchain does.
+/// Proves one crate after the other, each for as long as the file `slow` says, and names it before, as the toolchain does; then it writes the archive.
 const RT: &str = r#"#!/bin/sh
-echo "rt $*" >> calls
-case "$1" in
-  check)
-    mkdir -p target/log
-    for crate in base side gorzhani; do
-      touch target/log/$crate.say
-      sleep "$(cat slow 2> /dev/null || echo 0)"
-      rm target/log/$crate.say
-      [ -e broken ] && { echo "goal: a fact that is false"; exit 1; }
-      echo "rt: $crate proved (1 s)"
-    done ;;
-  staticlib)
-    mkdir -p target/staticlib
-    echo archive > target/staticlib/libgorzhani.a ;;
-esac
+folder=${PWD##*/}
+cd ../..
+echo "rt $* in $folder" >> calls
+for crate in base side gorzhani; do
+  echo "rt: chose --jobs 2 for $crate"
+  sleep "$(cat slow 2> /dev/null || echo 0)"
+  [ -e broken ] && { echo "goal: a fact that is false"; exit 1; }
+  echo "logic=proved functions=1"
+done
+mkdir -p crates/gorzhani/out
+echo archive > crates/gorzhani/out/libgorzhani.a
 "#;
 
 /// Builds a program that tells its words.
@@ -50,7 +46,7 @@ fn clone() -> Folder {
     executable(&folder.write("a clone/gorzhani", command));
     folder.write(
         "a clone/crates.txt",
-        "# crates\nbase:\nside: base\nrows: gorzhani\ngorzhani: side\n",
+        "# crates\nbase:\nside: base\nrows: side\ngorzhani staticlib: side\n",
     );
     for name in ["base", "side", "rows", "gorzhani"] {
         folder.write(&format!("a clone/crates/{name}/src/lib.rt"), "");
@@ -100,7 +96,7 @@ fn proves_builds_and_runs() {
     ] {
         assert!(first.errors.contains(words), "{words} in {}", first.errors);
     }
-    assert_eq!(calls(&folder), "rt check gorzhani\nrt staticlib gorzhani\ncargo build\n");
+    assert_eq!(calls(&folder), "rt lib in gorzhani\ncargo build\n");
     fs::remove_file(slow).expect("it was there");
 
     let second = started(&folder, &[]);
@@ -110,6 +106,7 @@ fn proves_builds_and_runs() {
     // What has changed is built again, and nothing else.
     sleep(Duration::from_millis(20));
     folder.write("a clone/crates/rows/src/lib.rt", "// changed");
+    folder.write("a clone/crates/side/out/kept", "by a later check");
     started(&folder, &[]);
     assert_eq!(calls(&folder), "");
     folder.write("a clone/host/desk/src/main.rs", "// changed");
@@ -118,7 +115,7 @@ fn proves_builds_and_runs() {
     sleep(Duration::from_millis(20));
     folder.write("a clone/crates/side/src/lib.rt", "// changed");
     started(&folder, &[]);
-    assert_eq!(calls(&folder), "rt check gorzhani\nrt staticlib gorzhani\ncargo build\n");
+    assert_eq!(calls(&folder), "rt lib in gorzhani\ncargo build\n");
 }
 
 #[test]
@@ -129,7 +126,7 @@ fn a_library_that_is_not_proved() {
     assert_eq!((called.status, &called.out[..]), (2, ""));
     assert!(called.errors.contains("goal: a fact that is false"), "{}", called.errors);
     assert!(called.errors.contains("the library isn't proved"), "{}", called.errors);
-    assert_eq!(calls(&folder), "rt check gorzhani\n");
+    assert_eq!(calls(&folder), "rt lib in gorzhani\n");
 }
 
 #[test]

@@ -15,7 +15,7 @@ use gorzhani::{Refused, Verdict, BLOCK, CELL, FIVE_BLOCKS, FOUR_BLOCKS, MOST_RUL
 
 /// What the program writes when it is handed these pieces, one after the other.
 fn written(pieces: &[&[u8]]) -> Vec<u8> {
-    let path = Path::new(env!("CARGO_MANIFEST_DIR")).join("../../target/bin/convert");
+    let path = Path::new(env!("CARGO_MANIFEST_DIR")).join("../../crates/convert/out/convert");
     let mut program = Command::new(path)
         .stdin(Stdio::piped())
         .stdout(Stdio::piped())
