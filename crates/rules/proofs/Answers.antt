@@ -1,15 +1,14 @@
 -- What was read, and what is answered: a refusal leaves all as it was, and else the two blocks are those of the rules.
 use mathlib.Core.Path.{◌≡◌, refl, sym, ap, ap₂, ◌∙◌}
-use mathlib.Core.Bool.{Bool, true, false, ◌&&◌, cond, true≢false}
-use mathlib.Core.List.{List, [], ◌∷◌, ◌++◌}
+use mathlib.Core.Bool.{Bool, ◌&&◌, cond, true≢false}
+use mathlib.Core.List.{List, ◌++◌}
 use Prim.Native.Nat.{ℕ, ◌*◌, ◌≤◌}
 use native.Mathlib.Omega.{arith}
 use borrow.Author.Tests.{leb-true}
 use lib.Dec.{leb}
-use lib.ListN.{length, take, length-map}
-use Rattle.model.specs.Actl.{Actl}
+use lib.ListN.{length, length-map}
 use Rattle.layout.proofs.Tables.{and_left, and_right}
-use Rattle.layout.specs.Sizes.{block_bytes, most_formulas, most_rules, check_in_block, records_in_block}
+use Rattle.layout.specs.Sizes.{block_bytes, most_formulas, most_rules}
 use Rattle.layout.specs.Bytes.{part, put}
 use Rattle.layout.specs.Blocks.{sealed}
 use Rattle.layout.proofs.Put.{put_behind}
@@ -21,13 +20,11 @@ use Rattle.typed.specs.Grammar.{Typed, Lines}
 use Rattle.typed.specs.Records.{formula_for, sizes, all_records, rules_from, forms_to, rule_blocks}
 use Rattle.typed.proofs.Sizes.{length_all_records, length_rules, length_forms_to}
 use Rattle.rules.specs.declared.Answer.TheVariants.{Rules, Refused}
-use Rattle.rules.specs.declared.parts.Grade.{Grade}
 use Rattle.rules.specs.declared.parts.Grade.TheVariants as grade
 use Rattle.rules.specs.declared.lines.Text.{Text}
-use Rattle.rules.specs.Making.{front}
 use Rattle.rules.specs.Grades.{allowed}
 use Rattle.rules.specs.Rules.{Reading, as_rules, as_nothing, formulas_for, rules_refusal, Ruling}
-use Rattle.rules.specs.Lining.{Holds, ReadAs, text_refusal}
+use Rattle.rules.specs.Lining.{ReadAs, text_refusal}
 use Rattle.rules.proofs.Universal.{all_universal}
 
 -- 19: no rules are a reading of the text

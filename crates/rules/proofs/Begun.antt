@@ -2,9 +2,9 @@
 use mathlib.Core.Path.{◌≡◌, refl, sym, ap, ap₂, subst, ◌∙◌}
 use mathlib.Core.Bool.{Bool, true, false, not, true≢false}
 use mathlib.Core.List.{List, [], ◌∷◌, ◌++◌, append_assoc, append-nil, flatten}
-use Prim.Native.Nat.{ℕ, suc, ◌+◌, ◌-◌, ◌≤◌, ◌<◌}
+use Prim.Native.Nat.{ℕ, suc, ◌+◌, ◌-◌, ◌≤◌}
 use native.Mathlib.Omega.{arith}
-use lib.ListN.{length, drop}
+use lib.ListN.{length}
 use Rattle.layout.specs.Sizes.{most_formulas}
 use Rattle.tokens.specs.declared.Quantifier.{Quantifier}
 use Rattle.tokens.specs.declared.Operator.{Operator}
@@ -12,14 +12,14 @@ use Rattle.tokens.specs.declared.Operator.TheVariants.{Next, Always, Eventually}
 use Rattle.tokens.specs.declared.Token.{Token}
 use Rattle.tokens.specs.declared.Token.TheVariants as token
 use Rattle.model.specs.Actl.{Actl}
-use Rattle.model.specs.Formulas.{ax, ag, au, truth}
+use Rattle.model.specs.Formulas.{ax, ag, au}
 use Rattle.typed.specs.Grammar.{Typed, negated, along, Rank, closest, Reads, by_not, by_temporal}
 use Rattle.typed.specs.Records.{at_steps, pushed, formula_for, size, records, forms_to, form_to}
 use Rattle.typed.proofs.Sizes.{forms_to_append, size_pos}
 use Rattle.rules.specs.declared.parts.Grade.{Grade}
-use Rattle.rules.specs.declared.parts.Grade.TheVariants.{Plain, Temporal, Refused}
+use Rattle.rules.specs.declared.parts.Grade.TheVariants.{Plain}
 use Rattle.rules.specs.Making.{front, below, Entry, entry, entries, unwound, closing}
-use Rattle.rules.specs.Grades.{worse, grade, prefixed, asked_behind}
+use Rattle.rules.specs.Grades.{worse, grade, asked_behind}
 use Rattle.rules.specs.Reading.{Begun, Pended, trues, true_bytes, opening}
 use Rattle.rules.proofs.Pile.{unwound_last, entries_kept, entries_more, below_less}
 use Rattle.rules.proofs.Graded.{behind_prefixes, not_behind, none_before, left_right}

@@ -1,12 +1,12 @@
 -- Two parts joined by a record, and chains of parts joined by & or by |.
 use mathlib.Core.Path.{◌≡◌, refl, sym, ap, ap₂, subst, ◌∙◌}
 use mathlib.Core.List.{List, [], ◌∷◌, ◌++◌, append_assoc, append-nil, flatten}
-use Prim.Native.Nat.{ℕ, ◌+◌, ◌-◌, ◌*◌, ◌%◌, ◌≤◌, ◌<◌}
+use Prim.Native.Nat.{ℕ, ◌+◌, ◌-◌, ◌%◌, ◌≤◌, ◌<◌}
 use native.Mathlib.Nat.{mod-eq_of_lt}
 use native.Mathlib.Omega.{arith}
 use lib.ListN.{length, drop}
 use Rattle.layout.specs.Sizes.{most_formulas}
-use Rattle.model.specs.Actl.{Actl, both, either, AU}
+use Rattle.model.specs.Actl.{Actl}
 use Rattle.model.specs.Formulas.{Form, conj, disj, au}
 use Rattle.tokens.specs.declared.Quantifier.{Quantifier}
 use Rattle.tokens.specs.declared.Token.{Token}
@@ -14,12 +14,12 @@ use Rattle.tokens.specs.Tokens.{scanned}
 use Rattle.typed.specs.Grammar.{Typed, until, Rank, Reads, as_conjunction, by_and, as_disjunction, by_or, Spells}
 use Rattle.typed.specs.Parses.{Goal, part, Parses, Ends, Ended, a_conjunction, no_more_and, one_more_and, a_disjunction, no_more_or, one_more_or}
 use Rattle.typed.specs.Records.{pushed, formula_for, size, records, form_to, forms_to, last}
-use Rattle.typed.proofs.Sizes.{forms_to_append, size_pos}
+use Rattle.typed.proofs.Sizes.{forms_to_append}
 use Rattle.typed.proofs.Unique.{joined, same}
 use Rattle.rules.specs.declared.parts.Grade.{Grade}
 use Rattle.rules.specs.declared.parts.Grade.TheVariants.{Refused}
 use Rattle.rules.specs.declared.parts.Part.{Part}
-use Rattle.rules.specs.Making.{record_room, pending_room, front, below, Added}
+use Rattle.rules.specs.Making.{record_room, pending_room, front, Added}
 use Rattle.rules.specs.Grades.{worse, grade}
 use Rattle.rules.specs.Reading.{Takes, Nothing}
 use Rattle.rules.specs.Joins.{Joins}

@@ -4,9 +4,8 @@ use mathlib.Core.List.{List, [], ◌∷◌, ◌++◌, append_assoc, append-nil, 
 use Prim.Native.Nat.{ℕ, ◌+◌, ◌-◌, ◌*◌, ◌%◌, ◌≤◌, ◌<◌}
 use native.Mathlib.Nat.{mod-eq_of_lt}
 use native.Mathlib.Omega.{arith}
-use lib.ListN.{length, take, drop, length-append, length-drop}
+use lib.ListN.{length, drop, length-append, length-drop}
 use lib.Seq.{drop-length}
-use Rattle.layout.specs.Sizes.{most_formulas, most_rules}
 use Rattle.model.specs.Actl.{Actl}
 use Rattle.tokens.specs.declared.Token.{Token}
 use Rattle.tokens.specs.declared.Token.TheVariants.{Line}
@@ -19,9 +18,7 @@ use Rattle.typed.proofs.Unique.{same, line_parses}
 use Rattle.rules.specs.declared.parts.Grade.{Grade}
 use Rattle.rules.specs.declared.parts.Grade.TheVariants.{Plain, Refused}
 use Rattle.rules.specs.declared.parts.Part.{Part}
-use Rattle.rules.specs.declared.lines.Text.{Text}
-use Rattle.rules.specs.Making.{front}
-use Rattle.rules.specs.Grades.{worse, grade, grades}
+use Rattle.rules.specs.Grades.{worse, grades}
 use Rattle.rules.specs.Reading.{Takes, Nothing}
 use Rattle.rules.specs.Rules.{formulas_for}
 use Rattle.rules.specs.Lining.{Ruled, Holds, ReadAs}

@@ -1,32 +1,27 @@
 -- Parts that were read: a part that was begun, read to its end; and two parts joined.
 use mathlib.Core.Path.{◌≡◌, refl, sym, ap, ap₂, subst, ◌∙◌}
 use mathlib.Core.Bool.{Bool, true, false, not, true≢false}
-use mathlib.Core.List.{List, [], ◌∷◌, ◌++◌, append_assoc}
-use Prim.Native.Nat.{ℕ, ◌+◌, ◌-◌, ◌*◌, ◌%◌, ◌≤◌, ◌<◌}
-use native.Mathlib.Nat.{mod-eq_of_lt}
+use mathlib.Core.List.{List, ◌++◌, append_assoc}
+use Prim.Native.Nat.{ℕ, ◌+◌, ◌-◌, ◌*◌, ◌≤◌}
 use native.Mathlib.Omega.{arith}
 use lib.ListN.{length, take, drop}
 use lib.Seq.{take-take, take_at, length-take-le}
 use Rattle.layout.specs.Sizes.{most_formulas}
-use Rattle.tokens.specs.declared.Token.{Token}
-use Rattle.model.specs.Actl.{Actl}
-use Rattle.model.specs.Formulas.{Form}
-use Rattle.typed.specs.Grammar.{Typed, Rank, closest, conjunction, disjunction, implication, Reads, Spells}
+use Rattle.typed.specs.Grammar.{Typed, Rank, closest, conjunction, disjunction, implication}
 use Rattle.typed.specs.Parses.{part, Parses, Ended, no_more_and, no_more_or}
-use Rattle.typed.specs.Records.{pushed, formula_for, size, records, form_to, forms_to, last}
-use Rattle.typed.proofs.Sizes.{forms_to_append, size_pos}
+use Rattle.typed.specs.Records.{pushed, formula_for, size, records, forms_to}
 use Rattle.typed.proofs.Unique.{joined, complete}
 use Rattle.rules.specs.declared.parts.Grade.{Grade}
 use Rattle.rules.specs.declared.parts.Grade.TheVariants.{Plain, Refused}
 use Rattle.rules.specs.declared.parts.Part.{Part}
 use Rattle.rules.specs.declared.parts.Outcome.{Outcome}
 use Rattle.rules.specs.declared.parts.Outcome.TheVariants.{Read, Wrong}
-use Rattle.rules.specs.Making.{record_room, front, below, Added, turned_from, Turned, Unwound, entries, unwound}
-use Rattle.rules.specs.Grades.{worse, under, grade, prefixed}
+use Rattle.rules.specs.Making.{record_room, front, turned_from, Turned, Unwound, entries, unwound}
+use Rattle.rules.specs.Grades.{worse, grade, prefixed}
 use Rattle.rules.specs.Reading.{Takes, Nothing, Reading, Begun}
 use Rattle.rules.proofs.Pile.{entries_kept, below_less}
 use Rattle.rules.proofs.Graded.{left_right, right_right, prefixed_right, under_right, untimed}
-use Rattle.rules.proofs.Turned.{turned_front, size_pushed}
+use Rattle.rules.proofs.Turned.{turned_front}
 
 -- a part that was read, from its first token to its last
 pub parsed : {text : List ℕ} {r : Rank} {room at height count : ℕ} {rs ps : List ℕ} {p : Part} {rs' ps' : List ℕ} → (t : Takes text r room at height count rs ps p rs' ps')

@@ -1,10 +1,9 @@
 -- Nobody has to believe this: the lines of a text as they are read.
-use Rattle.std.specs.Prelude.{◌≡◌, ◌&&◌, List, [], ◌∷◌, ◌++◌, ℕ, ◌+◌, ◌*◌, ◌%◌, ◌≤◌, ◌<◌, leb, length, take, drop}
+use Rattle.std.specs.Prelude.{◌≡◌, ◌&&◌, List, [], ◌∷◌, ◌++◌, ℕ, ◌+◌, ◌*◌, ◌≤◌, ◌<◌, leb, length, take}
 use Rattle.layout.specs.Sizes.{block_bytes, most_formulas, most_rules}
 use Rattle.refusals.specs.Refusals.{Test, first_failing}
 use Rattle.typed.specs.Grammar.{Typed, Lines}
 use Rattle.typed.specs.Records.{sizes, all_records, rules_from, forms_to}
-use Rattle.rules.specs.declared.parts.Grade.{Grade}
 use Rattle.rules.specs.declared.parts.Grade.TheVariants.{Refused}
 use Rattle.rules.specs.declared.lines.Text.{Text}
 use Rattle.rules.specs.declared.lines.Outcome.{Outcome}

@@ -10,7 +10,7 @@ use Rattle.typed.specs.Grammar.{Typed, Rank, closest, Reads, Spells}
 use Rattle.typed.specs.Parses.{part, Parses, Ended}
 use Rattle.typed.specs.Records.{pushed, formula_for, size, records, forms_to}
 use Rattle.rules.specs.declared.parts.Grade.{Grade}
-use Rattle.rules.specs.declared.parts.Grade.TheVariants.{Plain, Temporal, Refused}
+use Rattle.rules.specs.declared.parts.Grade.TheVariants.{Plain, Refused}
 use Rattle.rules.specs.declared.parts.Part.{Part}
 use Rattle.rules.specs.declared.parts.Outcome.{Outcome}
 use Rattle.rules.specs.declared.parts.Outcome.TheVariants.{Read, Wrong}

@@ -1,4 +1,6 @@
 // Rules as people type them: text in, the blocks of formulas and of rules out.
+#![tactic(auto)]
+
 ghost use Rattle.std.specs.Prelude.{◌≡◌};
 ghost use Rattle.rules.specs.Rules.{Ruling};
 

@@ -1,5 +1,5 @@
 -- `rules` meets its contract: the lines are read, what is refused leaves all as it was, and else the blocks are written.
-use mathlib.Core.Path.{◌≡◌, sym, ap, subst, ◌∙◌}
+use mathlib.Core.Path.{sym, ap, subst, ◌∙◌}
 use mathlib.Core.List.{List}
 use Prim.Native.Nat.{ℕ}
 use native.Mathlib.Omega.{arith}
@@ -10,7 +10,6 @@ use Rattle.layout.specs.Blocks.{sealed}
 use Rattle.rules.specs.declared.lines.Outcome.{Outcome}
 use Rattle.rules.specs.Lining.{ReadAs, Lining}
 use Rattle.rules.proofs.Answers.{unread, Passed, passes, declined, written}
-use borrow.Author.Rules.{rules}
 use Rattle.rules.proofs.rules.Goals as goal
 use Rattle.rules.proofs.rules.Goals.{Else-refusal-ne0, In-Read}
 

@@ -4,7 +4,6 @@ use native.Mathlib.Numerals.{add-one}
 use native.Mathlib.Omega.{arith}
 use lib.ListN.{length}
 use lib.Seq.{take-suc-set}
-use borrow.Author.Rules.{rules}
 use Rattle.rules.proofs.lines.put_rule.Goals as goal
 
 pub returns-then-n-lt-MOST_RULES : goal.returns-then-n-lt-MOST_RULES

@@ -1,23 +1,18 @@
 -- `lines::read_lines` meets its contract: the lines before `at` are read.
-use borrow.Author.Rules.{rules}
 use mathlib.Core.Path.{◌≡◌, ◌∙◌}
-use mathlib.Core.List.{List}
-use Prim.Native.Nat.{ℕ, ◌+◌, ◌-◌, ◌*◌, ◌≤◌, ◌<◌}
+use Prim.Native.Nat.{ℕ}
 use native.Mathlib.Omega.{arith}
 use lib.ListN.{length, drop}
-use Rattle.layout.specs.Sizes.{most_rules}
 use Rattle.tokens.specs.declared.Token.TheVariants.{Line}
 use Rattle.typed.specs.Grammar.{implication, most_depth}
 use Rattle.typed.specs.Parses.{Ends, Ended}
 use Rattle.typed.specs.Records.{formula_for}
 use Rattle.typed.proofs.Sizes.{size_pos}
-use Rattle.rules.specs.declared.parts.Grade.{Grade}
 use Rattle.rules.specs.Making.{record_room, pending_room}
 use Rattle.rules.specs.Reading.{Takes}
 use Rattle.rules.proofs.Places.{Stands, stands}
 use Rattle.rules.proofs.Taken.{was_read, was_wrong}
-use Rattle.rules.proofs.Lined.{Lined, lined_first, lined_wrong, lined_broken, lined_more, lined_all}
-use Rattle.rules.proofs.lines.read_lines.Invariants.{Lining}
+use Rattle.rules.proofs.Lined.{lined_first, lined_wrong, lined_broken, lined_more, lined_all}
 use Rattle.rules.proofs.lines.read_lines.Goals as goal
 use Rattle.rules.proofs.lines.read_lines.Goals.{After-read_implication, In-Line, In-Read}
 

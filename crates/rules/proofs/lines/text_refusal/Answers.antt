@@ -1,8 +1,6 @@
 -- `lines::text_refusal` meets its contract: one test after the other.
 use mathlib.Core.Path.{◌≡◌, refl}
 use mathlib.Core.Bool.{true}
-use mathlib.Core.List.{[], ◌∷◌}
-use borrow.Author.Rules.{rules}
 use borrow.Author.Tests.{le-leb, lt-leb}
 use Rattle.refusals.specs.Refusals.{first_failing}
 use Rattle.rules.specs.declared.parts.Grade.{Grade}

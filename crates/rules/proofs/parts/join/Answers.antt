@@ -2,7 +2,6 @@
 use mathlib.Core.Path.{ap}
 use Prim.Native.Nat.{◌+◌}
 use Rattle.rules.specs.declared.parts.Grade.{Grade}
-use borrow.Author.Rules.{rules}
 use Rattle.rules.proofs.parts.join.Goals as goal
 
 pub returns : goal.returns

@@ -1,15 +1,13 @@
 -- `prefixes::pend` meets its contract: an entry for each operator, and a record before it for AF alone.
 use mathlib.Core.Path.{◌≡◌, refl, sym, ap, subst, ◌∙◌}
 use mathlib.Core.List.{List, [], ◌∷◌, ◌++◌, append-nil}
-use Prim.Native.Nat.{ℕ, ◌+◌, ◌%◌, ◌<◌}
+use Prim.Native.Nat.{ℕ, ◌+◌, ◌%◌}
 use native.Mathlib.Nat.{mod-eq_of_lt}
 use native.Mathlib.Omega.{arith}
-use Rattle.layout.specs.Sizes.{most_formulas}
 use Rattle.tokens.specs.declared.Operator.{Operator}
 use Rattle.tokens.specs.declared.Operator.TheVariants.{Next, Always, Eventually}
-use Rattle.rules.specs.Making.{front, entry, Added, Pushed}
-use Rattle.rules.specs.Reading.{trues, opening, Pended}
-use borrow.Author.Rules.{rules}
+use Rattle.rules.specs.Making.{front, Added, Pushed}
+use Rattle.rules.specs.Reading.{trues, Pended}
 use Rattle.rules.proofs.prefixes.pend.Goals as goal
 
 -- what is promised of an operator

@@ -1,22 +1,17 @@
 -- `prefixes::read_prefixes` meets its contract: from `from` to `at` a closest part is begun.
-use borrow.Author.Rules.{rules}
-use mathlib.Core.Path.{◌≡◌, refl, sym, ap, subst, ◌∙◌}
-use mathlib.Core.Bool.{Bool, true, false, not}
+use mathlib.Core.Path.{◌≡◌, sym, ap, ◌∙◌}
+use mathlib.Core.Bool.{Bool}
 use mathlib.Core.List.{List}
-use Prim.Native.Nat.{ℕ, ◌+◌, ◌-◌, ◌*◌, ◌≤◌}
+use Prim.Native.Nat.{ℕ, ◌+◌, ◌*◌, ◌≤◌}
 use native.Mathlib.Omega.{arith}
-use lib.ListN.{length}
 use Rattle.tokens.specs.declared.Token.TheVariants as token
 use Rattle.typed.specs.Grammar.{closest}
 use Rattle.rules.specs.declared.parts.Grade.{Grade}
-use Rattle.rules.specs.declared.parts.Grade.TheVariants.{Plain}
-use Rattle.rules.specs.Making.{record_room, pending_room}
 use Rattle.rules.specs.Grades.{worse}
-use Rattle.rules.specs.Reading.{is_prefix, Begun, Prefixing}
+use Rattle.rules.specs.Reading.{is_prefix, Begun}
 use Rattle.rules.proofs.Places.{Stands, stands}
 use Rattle.rules.proofs.Begun.{at_first, with_not, with_temporal}
 use Rattle.rules.proofs.Tags.{not_prefix}
-use Rattle.rules.proofs.prefixes.read_prefixes.Invariants.{Beginning}
 use Rattle.rules.proofs.prefixes.read_prefixes.Goals as goal
 use Rattle.rules.proofs.prefixes.read_prefixes.Goals.{At-loop-negations, In-Not, In-Temporal}
 

@@ -1,19 +1,12 @@
-use borrow.Author.Rules.{rules}
-use mathlib.Core.Path.{◌≡◌, refl, sym, ap, subst, ◌∙◌}
-use mathlib.Core.Bool.{Bool, true, false, not}
+use mathlib.Core.Path.{◌≡◌}
+use mathlib.Core.Bool.{Bool}
 use mathlib.Core.List.{List}
-use Prim.Native.Nat.{ℕ, ◌+◌, ◌-◌, ◌*◌, ◌≤◌}
-use native.Mathlib.Omega.{arith}
+use Prim.Native.Nat.{ℕ, ◌-◌}
 use lib.ListN.{length}
-use Rattle.tokens.specs.declared.Token.TheVariants as token
 use Rattle.typed.specs.Grammar.{closest}
 use Rattle.rules.specs.declared.parts.Grade.{Grade}
-use Rattle.rules.specs.declared.parts.Grade.TheVariants.{Plain}
 use Rattle.rules.specs.Making.{record_room, pending_room}
-use Rattle.rules.specs.Grades.{worse}
-use Rattle.rules.specs.Reading.{is_prefix, Begun, Prefixing}
-use Rattle.rules.proofs.Places.{Stands, stands}
-use Rattle.rules.proofs.Begun.{at_first, with_not, with_temporal}
+use Rattle.rules.specs.Reading.{Begun}
 use Rattle.rules.proofs.prefixes.read_prefixes.Given as goal
 
 pub record Beginning (text : List ℕ) (from : ℕ) (rs₀ ps₀ : List ℕ) (height count : ℕ) (rs ps : List ℕ) (at h n : ℕ) (g : Grade) (nots odd : Bool) : Type 0 where

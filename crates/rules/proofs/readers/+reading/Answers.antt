@@ -21,9 +21,8 @@ use Rattle.rules.proofs.Begun.{at_first}
 use Rattle.rules.proofs.Taken.{was_read, was_wrong, finished}
 use Rattle.rules.proofs.Leaves.{name_read, true_read, false_read, none_read}
 use Rattle.rules.proofs.Enclosed.{missing, begins_behind, begins_after, some_records, few_records, no_bracket, bracket_empty, bracket_open, bracket_taken, no_square, square_missing, square_empty, until_missing, until_empty, square_open, until_taken}
-use Rattle.rules.proofs.Chained.{Chained, chain_of, chain_broken, chain_none, chain_ended, Chaining, chaining_first, chaining_more}
+use Rattle.rules.proofs.Chained.{Chained, chain_of, chain_broken, chain_none, chain_ended, chaining_first, chaining_more}
 use Rattle.rules.proofs.Arrow.{with_arrow, first_of, as_last}
-use Rattle.rules.proofs.readers.+reading.Invariants.{Implying}
 use Rattle.rules.proofs.readers.+reading.Goals as goal
 use Rattle.rules.proofs.readers.+reading.Goals.{read_bracketed-After-scan-open, read_bracketed-In-Read, read_closest-After-read_atom, read_closest-After-read_prefixes-begun, read_closest-In-Read, read_conjunction-At-loop-records, read_conjunction-In-And, read_conjunction-In-Read, read_conjunction-In-Read-read_closest, read_disjunction-At-loop-records, read_disjunction-In-Or, read_disjunction-In-Read, read_disjunction-In-Read-read_conjunction, read_implication-After-read_disjunction, read_implication-In-Implies, read_implication-In-Read, read_until-After-scan-path, read_until-In-OpenSquare, read_until-In-Read, read_until-In-Read-read_implication, read_until-In-Until}
 
@@ -112,8 +111,7 @@ prefixed c = c.read_prefixes-begun.ensures.begun c.args.room
 pub read_closest-read_atom-requires : goal.read_closest-read_atom-requires
 read_closest-read_atom-requires t c =
     let x = c.read_prefixes-begun in
-    let b = prefixed (goal.at.read_closest-read_atom-requires t c).After-read_prefixes-begun in
-    (
+    let b = prefixed (goal.at.read_closest-read_atom-requires t c).After-read_prefixes-begun in (
       omega (arith, c.decreases),
       (
         record {
@@ -156,8 +154,7 @@ pub read_closest-unwind-total-requires : goal.read_closest-unwind-total-requires
 read_closest-unwind-total-requires t c =
     let at = goal.at.read_closest-unwind-total-requires t c in
     let b = prefixed at.After-read_prefixes-begun in
-    let q = (behind_prefixes at.In-Read).0 in
-    (
+    let q = (behind_prefixes at.In-Read).0 in (
       c.negate_odd.auto.records ∙ closest_records at.After-read_atom,
       closest_pending at.After-read_atom,
       omega (arith, q.counted, size_pos (formula_for q.tree)),
@@ -169,8 +166,7 @@ pub read_closest-returns : goal.read_closest-returns
 read_closest-returns t c =
     let at = goal.at.read_closest-returns t c in
     let long' = c.read_prefixes-begun.auto.records ∙ c.requires.all_records in
-    let x = c.negate_odd in
-    (
+    let x = c.negate_odd in (
       finished (prefixed at.After-read_prefixes-begun) (behind_prefixes at.In-Read).0 long' (closest_records at.After-read_atom) x.new.records x.ensures c.unwind-total.ensures
           c.prefixed_grade.result c.prefixed_grade.ensures,
       tt,
@@ -196,8 +192,7 @@ and_begun c =
 
 pub read_conjunction-loop-records-init : goal.read_conjunction-loop-records-init
 read_conjunction-loop-records-init t c =
-    let x = c.read_closest in
-    (
+    let x = c.read_closest in (
       chaining_first conjunctive (x.auto.records ∙ c.requires.all_records) (x.auto.pending ∙ c.requires.all_pending),
       (and_begun (goal.at.read_conjunction-loop-records-init t c).In-Read).taken.inside,
     )
@@ -227,8 +222,7 @@ pub read_conjunction-read_closest-requires-in-loop-records : goal.read_conjuncti
 read_conjunction-read_closest-requires-in-loop-records t c =
     let at = goal.at.read_conjunction-read_closest-requires-in-loop-records t c in
     let h = c.loop-records.invariant.0 in
-    let w = and_sign at.In-And in
-    (
+    let w = and_sign at.In-And in (
       omega (arith, c.decreases),
       record {
         inside = w.inside;
@@ -259,8 +253,7 @@ pub read_conjunction-join-part-requires : goal.read_conjunction-join-part-requir
 read_conjunction-join-part-requires t c =
     let at = goal.at.read_conjunction-join-part-requires t c in
     let q = (and_right at.In-Read-read_closest).0 in
-    let l = (and_chain at.At-loop-records (and_begun at.In-Read)).taken in
-    (
+    let l = (and_chain at.At-loop-records (and_begun at.In-Read)).taken in (
       c.read_closest-in-loop-records.auto.records ∙ c.loop-records.invariant.0.all_records,
       omega (arith, l.counted, size_pos (formula_for l.tree)),
       omega (arith, q.counted, size_pos (formula_for q.tree)),
@@ -281,8 +274,7 @@ read_conjunction-loop-records-preserved t c =
     let q = and_right at.In-Read-read_closest in
     let h = c.loop-records.invariant.0 in
     let x = c.read_closest-in-loop-records in
-    let e = ap (λ (p : Part). p.next) c.join-part.ensures.part in
-    (
+    let e = ap (λ (p : Part). p.next) c.join-part.ensures.part in (
       chaining_more conjunctive h (and_sign at.In-And) q.0 q.1 c.join-part.ensures (c.join-part.auto.records ∙ x.auto.records ∙ h.all_records) (x.auto.pending ∙ h.all_pending),
       omega (arith, e, q.0.inside),
     )
@@ -307,8 +299,7 @@ or_begun c =
 
 pub read_disjunction-loop-records-init : goal.read_disjunction-loop-records-init
 read_disjunction-loop-records-init t c =
-    let x = c.read_conjunction in
-    (
+    let x = c.read_conjunction in (
       chaining_first disjunctive (x.auto.records ∙ c.requires.all_records) (x.auto.pending ∙ c.requires.all_pending),
       (or_begun (goal.at.read_disjunction-loop-records-init t c).In-Read).taken.inside,
     )
@@ -338,8 +329,7 @@ pub read_disjunction-read_conjunction-requires-in-loop-records : goal.read_disju
 read_disjunction-read_conjunction-requires-in-loop-records t c =
     let at = goal.at.read_disjunction-read_conjunction-requires-in-loop-records t c in
     let h = c.loop-records.invariant.0 in
-    let w = or_sign at.In-Or in
-    (
+    let w = or_sign at.In-Or in (
       omega (arith, c.decreases),
       record {
         inside = w.inside;
@@ -370,8 +360,7 @@ pub read_disjunction-join-part-requires : goal.read_disjunction-join-part-requir
 read_disjunction-join-part-requires t c =
     let at = goal.at.read_disjunction-join-part-requires t c in
     let q = (or_right at.In-Read-read_conjunction).0 in
-    let l = (or_chain at.At-loop-records (or_begun at.In-Read)).taken in
-    (
+    let l = (or_chain at.At-loop-records (or_begun at.In-Read)).taken in (
       c.read_conjunction-in-loop-records.auto.records ∙ c.loop-records.invariant.0.all_records,
       omega (arith, l.counted, size_pos (formula_for l.tree)),
       omega (arith, q.counted, size_pos (formula_for q.tree)),
@@ -392,8 +381,7 @@ read_disjunction-loop-records-preserved t c =
     let q = or_right at.In-Read-read_conjunction in
     let h = c.loop-records.invariant.0 in
     let x = c.read_conjunction-in-loop-records in
-    let e = ap (λ (p : Part). p.next) c.join-part.ensures.part in
-    (
+    let e = ap (λ (p : Part). p.next) c.join-part.ensures.part in (
       chaining_more disjunctive h (or_sign at.In-Or) q.0 q.1 c.join-part.ensures (c.join-part.auto.records ∙ x.auto.records ∙ h.all_records) (x.auto.pending ∙ h.all_pending),
       omega (arith, e, q.0.inside),
     )
@@ -415,8 +403,7 @@ read_implication-loop-part-init t c =
 
 pub read_implication-read_disjunction-requires : goal.read_implication-read_disjunction-requires
 read_implication-read_disjunction-requires t c =
-    let i = c.loop-part.invariant in
-    (
+    let i = c.loop-part.invariant in (
       omega (arith, c.decreases),
       record { inside = i.begun.inside; slim = omega (arith, i.begun.slim, c.requires.slim); all_records = i.all_records; all_pending = i.all_pending },
     )
@@ -461,8 +448,7 @@ read_implication-scan-found-requires t c = (next_part (goal.at.read_implication-
 
 pub read_implication-unwind-total-requires : goal.read_implication-unwind-total-requires
 read_implication-unwind-total-requires t c =
-    let at = goal.at.read_implication-unwind-total-requires t c in
-    (
+    let at = goal.at.read_implication-unwind-total-requires t c in (
       left_records at.After-read_disjunction,
       left_pending at.After-read_disjunction,
       counted at.In-Read,
@@ -477,8 +463,7 @@ read_implication-returns-in_default-token t c =
     let i = c.loop-part.invariant in
     let p = next_part at.In-Read in
     let rs = c.read_disjunction.new.records in
-    let other : Ends Implies (drop c.in-Read.part.next c.args.text.now) = λ z. c.in_default-token.not-Implies (c.scan-found.ensures.found.token ∙ z) in
-    (
+    let other : Ends Implies (drop c.in-Read.part.next c.args.text.now) = λ z. c.in_default-token.not-Implies (c.scan-found.ensures.found.token ∙ z) in (
       finished i.begun (as_last p.0) i.all_records (left_records at.After-read_disjunction) rs (record { stays = λ e. refl; turns = λ e. absurd (true≢false (sym e)) }) c.unwind-total.ensures
           c.worse_of.result c.worse_of.ensures,
       (p.1.0, p.1.1, other),
@@ -597,8 +582,7 @@ read_until-overflow_sub-room-2 t c = omega (arith, c.if-room-eq0.false)
 
 pub read_until-read_implication-requires-2 : goal.read_until-read_implication-requires-2
 read_until-read_implication-requires-2 t c =
-    let at = goal.at.read_until-read_implication-requires-2 t c in
-    (
+    let at = goal.at.read_until-read_implication-requires-2 t c in (
       omega (arith, c.if-room-eq0.false, c.decreases),
       begins_right at.In-Until (begins_left at.In-OpenSquare (path at.After-scan-path)) (until_left at.In-Read).0,
     )
@@ -635,8 +619,7 @@ read_until-join-joined-requires t c =
     let at = goal.at.read_until-join-joined-requires t c in
     let l = (until_left at.In-Read).0 in
     let r = (until_right at.In-Read-read_implication).0 in
-    let b = begins_right at.In-Until (begins_left at.In-OpenSquare (path at.After-scan-path)) l in
-    (
+    let b = begins_right at.In-Until (begins_left at.In-OpenSquare (path at.After-scan-path)) l in (
       c.read_implication-2.auto.records ∙ c.read_implication.auto.records ∙ c.requires.0.all_records,
       some_records l,
       some_records r,
@@ -648,8 +631,7 @@ read_until-returns t c =
     let at = goal.at.read_until-returns t c in
     let l = until_left at.In-Read in
     let r = until_right at.In-Read-read_implication in
-    let closed = stands c.args.text.now c.in-Read-read_implication.right.next c.scan-close.result CloseSquare (λ z. let y : ◌≡◌ {A = ℕ} 0 1 = cc in omega arith) c.scan-close.ensures c.in-CloseSquare.is in
-    (
+    let closed = stands c.args.text.now c.in-Read-read_implication.right.next c.scan-close.result CloseSquare (λ z. let y : ◌≡◌ {A = ℕ} 0 1 = cc in omega arith) c.scan-close.ensures c.in-CloseSquare.is in (
       until_taken (path at.After-scan-path) (square at.In-OpenSquare) l.0 l.1 (parted at.In-Until) r.0 c.if-room-eq0.false closed c.join-joined.ensures
           (c.worse_of.ensures ∙ ap (λ (k : Grade). worse k c.join-joined.result.grade) c.asked_by.ensures),
       tt,

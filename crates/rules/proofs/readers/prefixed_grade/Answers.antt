@@ -2,7 +2,6 @@
 use mathlib.Core.Path.{sym, ap, ◌∙◌}
 use mathlib.Core.Bool.{Bool}
 use Rattle.rules.specs.Grades.{worse, prefixed}
-use borrow.Author.Rules.{rules}
 use Rattle.rules.proofs.readers.prefixed_grade.Goals as goal
 
 pub returns-then-negations : goal.returns-then-negations

@@ -3,7 +3,6 @@ use Prim.Native.Nat.{◌%◌}
 use native.Mathlib.Omega.{arith}
 use lib.ListN.{length-set}
 use Rattle.rules.proofs.Stores.{record_stored}
-use borrow.Author.Rules.{rules}
 use Rattle.rules.proofs.records.add.Goals as goal
 
 pub bounds-records-at-then-count-lt-MOST_FORMULAS : goal.bounds-records-at-then-count-lt-MOST_FORMULAS

@@ -6,7 +6,6 @@ use native.Mathlib.Nat.{mod-eq_of_lt}
 use native.Mathlib.Omega.{arith}
 use Rattle.rules.specs.Making.{front}
 use Rattle.rules.proofs.Pile.{closing_one, closing_two}
-use borrow.Author.Rules.{rules}
 use Rattle.rules.proofs.records.add_last.Goals as goal
 
 pub returns-then-has_one : goal.returns-then-has_one

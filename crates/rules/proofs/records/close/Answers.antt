@@ -2,16 +2,15 @@
 use Prim.Native.Nat.{◌+◌, ◌*◌}
 use native.Mathlib.Omega.{arith}
 use Rattle.rules.specs.Making.{entry}
-use borrow.Author.Rules.{rules}
 use Rattle.rules.proofs.records.close.Goals as goal
 
 pub overflow_cast-a : goal.overflow_cast-a
-overflow_cast-a c = omega (arith, c.shared_slice_known-then-height-lt-MOST_FORMULAS-1.given (2 * c.args.height + 1))
+overflow_cast-a c = omega (arith, c.type_inv.pending (2 * c.args.height + 1))
 
 pub add_last-requires : goal.add_last-requires
 add_last-requires c =
     let pre = c.requires in
-    (pre.0, pre.2, omega (arith, c.shared_slice_known-then-height-lt-MOST_FORMULAS-2-1.given (2 * c.args.height + 1)))
+    (pre.0, pre.2, omega (arith, c.type_inv.pending (2 * c.args.height + 1)))
 
 pub returns-then-height-lt-MOST_FORMULAS : goal.returns-then-height-lt-MOST_FORMULAS
 unfolding entry

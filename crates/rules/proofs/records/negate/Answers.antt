@@ -1,12 +1,11 @@
 -- `records::negate` meets its contract: what is to be turned from the start is what is still to be turned of the records as they are.
-use borrow.Author.Rules.{rules}
 use mathlib.Core.Path.{◌≡◌, refl, sym, ap, ◌∙◌}
 use mathlib.Core.List.{List}
 use Prim.Native.Nat.{ℕ, suc, ◌+◌, ◌-◌, ◌*◌, ◌≤◌}
 use native.Mathlib.Omega.{arith}
-use lib.ListN.{length, set, length-set}
+use lib.ListN.{set, length-set}
 use Rattle.layout.specs.Sizes.{most_formulas}
-use Rattle.rules.specs.Making.{record_room, turned_from, opposite_kind}
+use Rattle.rules.specs.Making.{turned_from, opposite_kind}
 use Rattle.layout.specs.Bytes.{byte}
 use Rattle.rules.proofs.records.negate.Invariants.{Turning}
 use Rattle.rules.proofs.records.negate.Goals as goal

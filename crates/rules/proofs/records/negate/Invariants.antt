@@ -1,12 +1,9 @@
-use borrow.Author.Rules.{rules}
-use mathlib.Core.Path.{◌≡◌, refl, sym, ap, ◌∙◌}
+use mathlib.Core.Path.{◌≡◌}
 use mathlib.Core.List.{List}
-use Prim.Native.Nat.{ℕ, suc, ◌+◌, ◌-◌, ◌*◌, ◌≤◌}
-use native.Mathlib.Omega.{arith}
-use lib.ListN.{length, set, length-set}
+use Prim.Native.Nat.{ℕ, ◌-◌, ◌≤◌}
+use lib.ListN.{length}
 use Rattle.layout.specs.Sizes.{most_formulas}
-use Rattle.rules.specs.Making.{record_room, turned_from, opposite_kind}
-use Rattle.layout.specs.Bytes.{byte}
+use Rattle.rules.specs.Making.{record_room, turned_from}
 use Rattle.rules.proofs.records.negate.Given as goal
 
 pub record Turning (rs₀ : List ℕ) (from to end : ℕ) (rs : List ℕ) (i : ℕ) : Type 0 where

@@ -1,7 +1,6 @@
 -- `records::negate_odd` meets its contract, by whether the negations are odd in number.
 use mathlib.Core.Path.{refl, sym, ◌∙◌}
 use mathlib.Core.Bool.{true≢false}
-use borrow.Author.Rules.{rules}
 use Rattle.rules.proofs.records.negate_odd.Goals as goal
 
 pub returns-then-odd : goal.returns-then-odd

@@ -1,11 +1,10 @@
 -- `records::unwind` meets its contract: the entries from h on have their records.
 use borrow.Author.Rules.{rules}
-use mathlib.Core.Path.{◌≡◌, refl, sym, ap, ap₂, ◌∙◌}
-use mathlib.Core.List.{List, [], ◌++◌, append_assoc, append-nil}
+use mathlib.Core.Path.{◌≡◌, sym, ap, ap₂, ◌∙◌}
+use mathlib.Core.List.{List, ◌++◌, append_assoc, append-nil}
 use Prim.Native.Nat.{ℕ, suc, ◌+◌, ◌-◌, ◌≤◌, ◌<◌}
 use native.Mathlib.Omega.{arith}
 use lib.ListN.{length}
-use Rattle.layout.specs.Sizes.{most_formulas}
 use Rattle.rules.specs.Making.{record_room, front, Closed, Unwound, entries, closing, entry, unwound}
 use Rattle.rules.proofs.Pile.{unwound_first}
 use Rattle.rules.proofs.records.unwind.Invariants.{Unwinding}

@@ -1,12 +1,9 @@
-use borrow.Author.Rules.{rules}
-use mathlib.Core.Path.{◌≡◌, refl, sym, ap, ap₂, ◌∙◌}
-use mathlib.Core.List.{List, [], ◌++◌, append_assoc, append-nil}
-use Prim.Native.Nat.{ℕ, suc, ◌+◌, ◌-◌, ◌≤◌, ◌<◌}
-use native.Mathlib.Omega.{arith}
+use mathlib.Core.Path.{◌≡◌}
+use mathlib.Core.List.{List, ◌++◌}
+use Prim.Native.Nat.{ℕ, ◌+◌, ◌-◌, ◌≤◌}
 use lib.ListN.{length}
 use Rattle.layout.specs.Sizes.{most_formulas}
-use Rattle.rules.specs.Making.{record_room, front, Closed, Unwound, entries, closing, entry, unwound}
-use Rattle.rules.proofs.Pile.{unwound_first}
+use Rattle.rules.specs.Making.{record_room, front, entries, unwound}
 use Rattle.rules.proofs.records.unwind.Given as goal
 
 pub record Unwinding (rs₀ ps : List ℕ) (base height count : ℕ) (rs : List ℕ) (h n : ℕ) : Type 0 where
