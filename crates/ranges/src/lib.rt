@@ -1,4 +1,6 @@
 // Waits known by range: chosen delayed states of a design are replaced by states that count.
+#![tactic(auto)]
+
 ghost use Rattle.std.specs.Prelude.{◌≡◌};
 ghost use Rattle.ranges.specs.Ranges.{ranges_refusal, Ranges};
 
