@@ -74,3 +74,4 @@ pub mod Formed
 pub mod Ways
 pub mod Refuted
 pub mod Rows
+pub mod BlameRows

@@ -1,5 +1,5 @@
 -- Theorem 6: the starred rows of the specification are true. One test computes on the whole table, and a row that passes it says what `Meaning` says.
-use mathlib.Core.Path.{◌≡◌, refl, ap₂, subst, subst⁻¹}
+use mathlib.Core.Path.{◌≡◌, refl, ap₂, subst⁻¹}
 use mathlib.Core.Bool.{Bool, true, false, not, ◌&&◌}
 use mathlib.Core.List.{List, [], ◌∷◌, flatten, Memᴰ as In}
 use mathlib.Core.Option.{Option, none, some}
@@ -13,18 +13,16 @@ use Rattle.model.specs.Joined.{label_words, own_label, labelled}
 use Rattle.model.specs.Positions.{any, is_until, is_always, is_next_of, kept, one_if, count, kept_count, until_count, joint_count, positions}
 use Rattle.model.specs.Judged.{all, tally, same_list, same_events, with_move, with_moves, joint_moves, names?, once?, follows?, fulfils?, obeys?, matched?, until_by, always_for, Verdict, accepted, unmatched, violated, number, judged}
 use Rattle.model.specs.Waits.{first, waits as rule_waits}
-use Rattle.model.specs.Blame.{Blamed, first_fault}
 use Rattle.model.specs.Ranges.{counted_move, counted, counts, replaced, ranged}
 use Rattle.model.specs.Runs.{Runner, done, refused, fits, all_fit, first_fit, taken, ticked}
 use Rattle.model.specs.RowData.{minus}
-use Rattle.model.specs.Rows.{Row, well_formed, no_such_label, kept_are, positions_are, judge_says, blames, waits_are, keeps_rule, fails_rule, converter_for, none_for, tick_takes, tick_refused, ranged_is, Meaning, rows}
+use Rattle.model.specs.Rows.{Row, well_formed, no_such_label, kept_are, positions_are, judge_says, waits_are, keeps_rule, fails_rule, converter_for, none_for, tick_takes, tick_refused, ranged_is, Meaning, rows}
 use Rattle.model.proofs.Bools.{and_both}
 use Rattle.model.proofs.Lists.{all_in, any_in}
 use Rattle.model.proofs.SameEvent.{same_event_eq}
 use Rattle.model.proofs.JointMoves.{same_list_eq, same_events_eq}
 use Rattle.model.proofs.MatchedTest.{matched_sound}
-use Rattle.model.proofs.Judged.{kept_at_start, label_keeps, judged_accepts, judged_violated}
-use Rattle.model.proofs.Blame.{blamed}
+use Rattle.model.proofs.Judged.{kept_at_start, label_keeps, judged_accepts}
 use Rattle.model.proofs.Formed.{all_below, distinct?, state?, sends?, kind?, side?, lower?, prop?, props?, parts?, well_formed?, props_formed, parts_formed, formed}
 use Rattle.model.proofs.Ways.{both_ways, either_way, ways_all}
 use Rattle.model.proofs.Refuted.{Choice, Refutation, clash, waits, show_at, showing, every_answer, lost, covers, withheld, never, refutes, refuted_none}
@@ -71,7 +69,6 @@ row_test (no_such_label D) = parts? D && not (props? D)
 row_test (kept_are D n) = well_formed? D && eqb (kept_count D) n
 row_test (positions_are D n) = well_formed? D && eqb (positions D) n
 row_test (judge_says D C v) = well_formed? D && eqb (number (judged D C)) (number v)
-row_test (blames D C k) = well_formed? D && (eqb (number (judged D C)) (number violated) && eqb (first_fault D C) k)
 row_test (waits_are D C ws) = well_formed? D && (eqb (number (judged D C)) (number accepted) && same_list eqb (rule_waits D C) ws)
 row_test (keeps_rule D C r) = well_formed? D && (matched? D.sides C && any (eqb r) D.rules && kept_at_start D C r)
 row_test (fails_rule D C r) = well_formed? D && (matched? D.sides C && any (eqb r) D.rules && not (kept_at_start D C r))
@@ -90,7 +87,7 @@ unfolding row_test all any
     refutes lost show_at showing every_answer covers withheld never ways_all both_ways either_way
     leads stuck first_fit all_fit fits
     ranged replaced counts counted counted_move flatten same_state same_move
-    rule_waits first first_fault
+    rule_waits first
 rows_pass = tt
 
 -- ---- a row that passes is true
@@ -152,14 +149,6 @@ row_means (no_such_label D) t =
 row_means (kept_are D n) t = let w = and_both (well_formed? D) (eqb (kept_count D) n) t in (formed D w.0, eqb→eq (kept_count D) n w.1)
 row_means (positions_are D n) t = let w = and_both (well_formed? D) (eqb (positions D) n) t in (formed D w.0, eqb→eq (positions D) n w.1)
 row_means (judge_says D C v) t = let w = and_both (well_formed? D) (eqb (number (judged D C)) (number v)) t in (formed D w.0, same_answer (judged D C) v w.1)
-row_means (blames D C k) t =
-    let w = and_both (well_formed? D) (eqb (number (judged D C)) (number violated) && eqb (first_fault D C) k) t in
-    let x = and_both (eqb (number (judged D C)) (number violated)) (eqb (first_fault D C) k) w.1 in
-    let wf = formed D w.0 in
-    let e = same_answer (judged D C) violated x.0 in
-    let is = eqb→eq (first_fault D C) k x.1 in
-    let m = ((judged_violated D wf C).0 e).0 in
-    (wf, m, subst (Blamed D C) is (blamed D wf C m e), is)
 row_means (waits_are D C ws) t =
     let w = and_both (well_formed? D) (eqb (number (judged D C)) (number accepted) && same_list eqb (rule_waits D C) ws) t in
     let x = and_both (eqb (number (judged D C)) (number accepted)) (same_list eqb (rule_waits D C) ws) w.1 in

@@ -16,3 +16,4 @@ pub mod Ranges
 pub mod Runs
 pub mod RowData
 pub mod Rows
+pub mod BlameRows

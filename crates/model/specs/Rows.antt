@@ -9,7 +9,6 @@ use Rattle.model.specs.Designs.{Design, WellFormed, Keeps, Works, NoneWorks}
 use Rattle.model.specs.Positions.{kept_count, positions}
 use Rattle.model.specs.Judged.{Verdict, accepted, unmatched, violated, judged}
 use Rattle.model.specs.Waits.{no_wait, waits}
-use Rattle.model.specs.Blame.{Blamed, first_fault}
 use Rattle.model.specs.Ranges.{Range, ranged}
 use Rattle.model.specs.Runs.{done, refused, ticked}
 use Rattle.model.specs.RowData.{plus, minus, H, H_printed, H_mended, H_until, H_idle, F, F_deaf, F_third, turns, turns_apart, turns_converter, fork_either, fork_two, fork_both, fork_first, fork_open, lock_then_menu, menu_now, lock_next, in_step, naming, viewer_alone, viewer_prompt, viewer_waiting, picture_at_once, picture_in_time, four_choices, one_for_each, one_left_out, one_too_many, three_senders, all_eight, seven_of_eight, between, at_least, H_at_once, H_by_one, H_in_time, sent_at_once, sent_by_one, sent_in_time, handshake_kernel, sends_at_once, third_to_ninth, s1_then_s0, sending_back, fifteen_or_more}
@@ -25,8 +24,6 @@ pub data Row : Type 0 where
   positions_are : Design → ℕ → Row
   -- what the judge answers
   judge_says : Design → Converter → Verdict → Row
-  -- the place of the first rule that a matched converter fails
-  blames : Design → Converter → ℕ → Row
   -- the waits of the rules of a design under a converter that works
   waits_are : Design → Converter → List ℕ → Row
   -- a rule of the design that a matched converter keeps, or fails
@@ -51,7 +48,6 @@ Meaning (no_such_label D) =
 Meaning (kept_are D n) = WellFormed D × (kept_count D ≡ n)
 Meaning (positions_are D n) = WellFormed D × (positions D ≡ n)
 Meaning (judge_says D C v) = WellFormed D × (judged D C ≡ v)
-Meaning (blames D C k) = WellFormed D × Matched D.sides C × Blamed D C k × (first_fault D C ≡ k)
 Meaning (waits_are D C ws) = WellFormed D × Works D C × (waits D C ≡ ws)
 Meaning (keeps_rule D C r) = WellFormed D × Matched D.sides C × In r D.rules × Keeps D C r
 Meaning (fails_rule D C r) = WellFormed D × Matched D.sides C × In r D.rules × (Keeps D C r → ⊥)
@@ -119,6 +115,4 @@ rows =
     ∷ waits_are H_at_once sent_at_once (1 ∷ []) ∷ waits_are H_by_one sent_by_one (2 ∷ []) ∷ waits_are H_in_time sent_in_time (3 ∷ [])
     -- two states ticking in turn; A(true U 0), A(true U 1) and the always over both: 0, 1 and none
     ∷ waits_are turns_apart turns_converter (0 ∷ 1 ∷ no_wait ∷ [])
-    -- F against the paper's four rules as printed: the fourth is the first that fails; both inputs of the fork: the only one; AX 16 and AX 17 under the first input: the second
-    ∷ blames H_printed F 3 ∷ blames fork_either fork_open 0 ∷ blames fork_two fork_first 1
     ∷ []
