@@ -1,4 +1,5 @@
 -- The readers meet their contracts, all in one: each by its own answers, at measures that fall with every call.
+use borrow.Author.Rules.{rules}
 use mathlib.Core.Path.{◌≡◌, refl, sym, ap, ◌∙◌}
 use mathlib.Core.Bool.{false, true≢false}
 use mathlib.Core.List.{List}
@@ -24,7 +25,7 @@ use Rattle.rules.proofs.Enclosed.{missing, begins_behind, begins_after, some_rec
 use Rattle.rules.proofs.Chained.{Chained, chain_of, chain_broken, chain_none, chain_ended, chaining_first, chaining_more}
 use Rattle.rules.proofs.Arrow.{with_arrow, first_of, as_last}
 use Rattle.rules.proofs.readers.+reading.Goals as goal
-use Rattle.rules.proofs.readers.+reading.Goals.{read_bracketed-After-scan-open, read_bracketed-In-Read, read_closest-After-read_atom, read_closest-After-read_prefixes-begun, read_closest-In-Read, read_conjunction-At-loop-records, read_conjunction-In-And, read_conjunction-In-Read, read_conjunction-In-Read-read_closest, read_disjunction-At-loop-records, read_disjunction-In-Or, read_disjunction-In-Read, read_disjunction-In-Read-read_conjunction, read_implication-After-read_disjunction, read_implication-In-Implies, read_implication-In-Read, read_until-After-scan-path, read_until-In-OpenSquare, read_until-In-Read, read_until-In-Read-read_implication, read_until-In-Until}
+use Rattle.rules.proofs.readers.+reading.Goals.{read_bracketed-After-scan-open, read_bracketed-In-Read, read_closest-After-read_atom, read_closest-After-read_prefixes-begun, read_closest-In-Read, read_conjunction-At-loop-records, read_conjunction-After-scan-found, read_conjunction-In-Read, read_conjunction-In-Read-read_closest, read_disjunction-At-loop-records, read_disjunction-After-scan-found, read_disjunction-In-Read, read_disjunction-In-Read-read_conjunction, read_implication-After-read_disjunction, read_implication-In-Implies, read_implication-In-Read, read_until-After-scan-path, read_until-In-OpenSquare, read_until-In-Read, read_until-In-Read-read_implication, read_until-In-Until}
 
 -- ---- read_atom: a name or a constant is read here, and what begins with another token by another reader
 pub read_atom-read_until-requires : goal.read_atom-read_until-requires
@@ -90,12 +91,12 @@ pub read_bracketed-returns-in_default-token : goal.read_bracketed-returns-in_def
 read_bracketed-returns-in_default-token t c =
     let at = goal.at.read_bracketed-returns-in_default-token t c in
     let read = inner at.In-Read in
-    bracket_open (bracket at.After-scan-open) read.0 read.1 (missing c.scan-close.ensures c.in_default-token.not-Close)
+    bracket_open (bracket at.After-scan-open) read.0 read.1 (missing c.scan-close.ensures (search rules))
 
 pub read_bracketed-returns : goal.read_bracketed-returns
 read_bracketed-returns t c =
     let at = goal.at.read_bracketed-returns t c in
-    let closed = stands c.args.text.now c.in-Read.part.next c.scan-close.result Close (λ z. let y : ◌≡◌ {A = ℕ} 0 1 = cc in omega arith) c.scan-close.ensures c.in-Close.is in
+    let closed = stands c.args.text.now c.in-Read.part.next c.scan-close.result Close (λ z. let y : ◌≡◌ {A = ℕ} 0 1 = cc in omega arith) c.scan-close.ensures (search rules) in
     (bracket_taken (bracket at.After-scan-open) (inner at.In-Read).0 c.if-room-eq0.false closed, tt)
 
 -- ---- read_closest: prefixes, what they stand before, and the records that they wait to make
@@ -211,18 +212,19 @@ pub read_conjunction-returns-in_default-token : goal.read_conjunction-returns-in
 read_conjunction-returns-in_default-token t c =
     let at = goal.at.read_conjunction-returns-in_default-token t c in
     let chain = and_chain at.At-loop-records (and_begun at.In-Read) in
-    let other : Ends And (drop c.loop-records.part.next c.args.text.now) = λ z. c.in_default-token.not-And (c.scan-found.ensures.found.token ∙ z) in
+    let other : Ends And (drop c.loop-records.part.next c.args.text.now) = let n : c.scan-found.result.token ≡ And → ⊥ = search rules in λ z. n (c.scan-found.ensures.found.token ∙ z) in
     (chain.taken, chain_ended conjunctive chain other)
 
 -- the sign stands behind the chain
-and_sign : {t : ℕ} → (c : read_conjunction-In-And t) → Stands c.args.text.now c.loop-records.part.next And c.scan-found.result.next
-and_sign c = stands c.args.text.now c.loop-records.part.next c.scan-found.result And (λ z. let y : ◌≡◌ {A = ℕ} 0 1 = cc in omega arith) c.scan-found.ensures c.in-And.is
+and_sign : {t : ℕ} → (c : read_conjunction-After-scan-found t) → c.scan-found.result.token ≡ And → Stands c.args.text.now c.loop-records.part.next And c.scan-found.result.next
+and_sign c e =
+    stands c.args.text.now c.loop-records.part.next c.scan-found.result And (λ z. let y : ◌≡◌ {A = ℕ} 0 1 = cc in omega arith) c.scan-found.ensures e
 
 pub read_conjunction-read_closest-requires-in-loop-records : goal.read_conjunction-read_closest-requires-in-loop-records
 read_conjunction-read_closest-requires-in-loop-records t c =
     let at = goal.at.read_conjunction-read_closest-requires-in-loop-records t c in
     let h = c.loop-records.invariant.0 in
-    let w = and_sign at.In-And in (
+    let w = and_sign at.After-scan-found (search rules) in (
       omega (arith, c.decreases),
       record {
         inside = w.inside;
@@ -239,7 +241,7 @@ read_conjunction-returns-in_default-read_closest t c =
     let a = c.args in
     let l = c.loop-records in
     let x = c.read_closest-in-loop-records in
-    chain_broken conjunctive (and_chain at.At-loop-records (and_begun at.In-Read)) (and_sign at.In-And)
+    chain_broken conjunctive (and_chain at.At-loop-records (and_begun at.In-Read)) (and_sign at.After-scan-found (search rules))
     (was_wrong a.text.now closest a.room c.scan-found.result.next a.height l.part.count l.records l.pending x.new.records x.new.pending x.result x.ensures c.in_default-read_closest.is)
 
 -- another part was read
@@ -257,14 +259,14 @@ read_conjunction-join-part-requires t c =
       c.read_closest-in-loop-records.auto.records ∙ c.loop-records.invariant.0.all_records,
       omega (arith, l.counted, size_pos (formula_for l.tree)),
       omega (arith, q.counted, size_pos (formula_for q.tree)),
-      omega (arith, l.slim, q.slim, c.requires.slim, q.inside, (and_sign at.In-And).ahead),
+      omega (arith, l.slim, q.slim, c.requires.slim, q.inside, (and_sign at.After-scan-found (search rules)).ahead),
     )
 
 pub read_conjunction-loop-records-smaller : goal.read_conjunction-loop-records-smaller
 read_conjunction-loop-records-smaller t c =
     let at = goal.at.read_conjunction-loop-records-smaller t c in
     let q = (and_right at.In-Read-read_closest).0 in
-    let w = and_sign at.In-And in
+    let w = and_sign at.After-scan-found (search rules) in
     let e = ap (λ (p : Part). p.next) c.join-part.ensures.part in
     omega (arith, q.ahead, q.inside, w.ahead, e)
 
@@ -275,7 +277,7 @@ read_conjunction-loop-records-preserved t c =
     let h = c.loop-records.invariant.0 in
     let x = c.read_closest-in-loop-records in
     let e = ap (λ (p : Part). p.next) c.join-part.ensures.part in (
-      chaining_more conjunctive h (and_sign at.In-And) q.0 q.1 c.join-part.ensures (c.join-part.auto.records ∙ x.auto.records ∙ h.all_records) (x.auto.pending ∙ h.all_pending),
+      chaining_more conjunctive h (and_sign at.After-scan-found (search rules)) q.0 q.1 c.join-part.ensures (c.join-part.auto.records ∙ x.auto.records ∙ h.all_records) (x.auto.pending ∙ h.all_pending),
       omega (arith, e, q.0.inside),
     )
 
@@ -318,18 +320,19 @@ pub read_disjunction-returns-in_default-token : goal.read_disjunction-returns-in
 read_disjunction-returns-in_default-token t c =
     let at = goal.at.read_disjunction-returns-in_default-token t c in
     let chain = or_chain at.At-loop-records (or_begun at.In-Read) in
-    let other : Ends Or (drop c.loop-records.part.next c.args.text.now) = λ z. c.in_default-token.not-Or (c.scan-found.ensures.found.token ∙ z) in
+    let other : Ends Or (drop c.loop-records.part.next c.args.text.now) = let n : c.scan-found.result.token ≡ Or → ⊥ = search rules in λ z. n (c.scan-found.ensures.found.token ∙ z) in
     (chain.taken, chain_ended disjunctive chain other)
 
 -- the sign stands behind the chain
-or_sign : {t : ℕ} → (c : read_disjunction-In-Or t) → Stands c.args.text.now c.loop-records.part.next Or c.scan-found.result.next
-or_sign c = stands c.args.text.now c.loop-records.part.next c.scan-found.result Or (λ z. let y : ◌≡◌ {A = ℕ} 0 1 = cc in omega arith) c.scan-found.ensures c.in-Or.is
+or_sign : {t : ℕ} → (c : read_disjunction-After-scan-found t) → c.scan-found.result.token ≡ Or → Stands c.args.text.now c.loop-records.part.next Or c.scan-found.result.next
+or_sign c e =
+    stands c.args.text.now c.loop-records.part.next c.scan-found.result Or (λ z. let y : ◌≡◌ {A = ℕ} 0 1 = cc in omega arith) c.scan-found.ensures e
 
 pub read_disjunction-read_conjunction-requires-in-loop-records : goal.read_disjunction-read_conjunction-requires-in-loop-records
 read_disjunction-read_conjunction-requires-in-loop-records t c =
     let at = goal.at.read_disjunction-read_conjunction-requires-in-loop-records t c in
     let h = c.loop-records.invariant.0 in
-    let w = or_sign at.In-Or in (
+    let w = or_sign at.After-scan-found (search rules) in (
       omega (arith, c.decreases),
       record {
         inside = w.inside;
@@ -346,7 +349,7 @@ read_disjunction-returns-in_default-read_conjunction t c =
     let a = c.args in
     let l = c.loop-records in
     let x = c.read_conjunction-in-loop-records in
-    chain_broken disjunctive (or_chain at.At-loop-records (or_begun at.In-Read)) (or_sign at.In-Or)
+    chain_broken disjunctive (or_chain at.At-loop-records (or_begun at.In-Read)) (or_sign at.After-scan-found (search rules))
     (was_wrong a.text.now conjunction a.room c.scan-found.result.next a.height l.part.count l.records l.pending x.new.records x.new.pending x.result x.ensures c.in_default-read_conjunction.is)
 
 -- another part was read
@@ -364,14 +367,14 @@ read_disjunction-join-part-requires t c =
       c.read_conjunction-in-loop-records.auto.records ∙ c.loop-records.invariant.0.all_records,
       omega (arith, l.counted, size_pos (formula_for l.tree)),
       omega (arith, q.counted, size_pos (formula_for q.tree)),
-      omega (arith, l.slim, q.slim, c.requires.slim, q.inside, (or_sign at.In-Or).ahead),
+      omega (arith, l.slim, q.slim, c.requires.slim, q.inside, (or_sign at.After-scan-found (search rules)).ahead),
     )
 
 pub read_disjunction-loop-records-smaller : goal.read_disjunction-loop-records-smaller
 read_disjunction-loop-records-smaller t c =
     let at = goal.at.read_disjunction-loop-records-smaller t c in
     let q = (or_right at.In-Read-read_conjunction).0 in
-    let w = or_sign at.In-Or in
+    let w = or_sign at.After-scan-found (search rules) in
     let e = ap (λ (p : Part). p.next) c.join-part.ensures.part in
     omega (arith, q.ahead, q.inside, w.ahead, e)
 
@@ -382,7 +385,7 @@ read_disjunction-loop-records-preserved t c =
     let h = c.loop-records.invariant.0 in
     let x = c.read_conjunction-in-loop-records in
     let e = ap (λ (p : Part). p.next) c.join-part.ensures.part in (
-      chaining_more disjunctive h (or_sign at.In-Or) q.0 q.1 c.join-part.ensures (c.join-part.auto.records ∙ x.auto.records ∙ h.all_records) (x.auto.pending ∙ h.all_pending),
+      chaining_more disjunctive h (or_sign at.After-scan-found (search rules)) q.0 q.1 c.join-part.ensures (c.join-part.auto.records ∙ x.auto.records ∙ h.all_records) (x.auto.pending ∙ h.all_pending),
       omega (arith, e, q.0.inside),
     )
 
