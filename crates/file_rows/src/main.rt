@@ -1,5 +1,7 @@
 // Runs the rows of the specification on the writer and the block reader. For each it writes a line: what was tried, and the answer, which is a count or the
 // number of a refusal. What is lent for a result is 170 everywhere at first, so that a byte that was written shows; a second line says whether it is as it was.
+#![tactic(auto)]
+
 ghost use Rattle.std.specs.Prelude.{◌<◌, ◌≤◌, length};
 
 use layout::blocks;
