@@ -1,4 +1,6 @@
 // The judge: whether a converter is matched to the sides of a design and keeps every rule, over lent work of 16 bytes a record; and how long its rules wait, in a lent list.
+#![tactic(auto)]
+
 ghost use Rattle.std.specs.Prelude.{◌≡◌};
 ghost use Rattle.judge.specs.Judge.{judge_refusal, Judges};
 
