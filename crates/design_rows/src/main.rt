@@ -1,5 +1,7 @@
 // Runs the rows of the specification on the reading of a design and on waits known by range. For each it writes a line: what was read, and the number of the
 // refusal, which is 0 for none.
+#![tactic(auto)]
+
 ghost use Rattle.std.specs.Prelude.{◌<◌, ◌≤◌, length};
 
 mod waits;
