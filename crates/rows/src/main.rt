@@ -1,6 +1,5 @@
-// Runs the rows of the specification on the judge, its waits, the quick verdict and the tick. For each it writes a line: what was tried, and the answer, which is 0 for yes and done, or the
+// Runs the rows of the specification on the judge, its waits and the tick. For each it writes a line: what was tried, and the answer, which is 0 for yes and done, or the
 // number of a refusal. Lines below it say what the call left behind.
-mod blaming;
 mod judging;
 mod ticks;
 mod waiting;
@@ -8,6 +7,5 @@ mod waiting;
 fn main() {
     judging::rows();
     waiting::rows();
-    blaming::rows();
     ticks::rows();
 }
