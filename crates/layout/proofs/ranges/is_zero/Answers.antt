@@ -14,7 +14,7 @@ returns-then-s-at-ne0 c =
     sym (not_zeros a.s.now a.at a.n c.requires l.i (omega arith) c.if-s-at-ne0.true)
 
 pub loop-i-preserved : goal.loop-i-preserved
-loop-i-preserved c = (search rules, below_more _ _ c.loop-i.invariant.1 c.if-s-at-ne0.false)
+loop-i-preserved c = (search rules, below_more _ _ c.loop-i.invariant.1 (search rules))
 
 pub returns : goal.returns
 returns c =
