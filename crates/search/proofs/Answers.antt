@@ -70,5 +70,5 @@ module _ (ds table work : List ℕ) (a : Outcome) (table' work' : List ℕ) (S :
 
   pub found_in : (n : ℕ) → a ≡ Found n → FoundIn ds table' n
   found_in n e =
-      subst⁻¹ (λ (t : List ℕ). FoundIn ds t n) S.Leaves_table
+      subst⁻¹ (λ (t : List ℕ). FoundIn ds t n) S.leaves_table
       (found_then ds table (length work) S.finding n (sym e ∙ S.answers))
