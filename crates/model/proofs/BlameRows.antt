@@ -1,18 +1,15 @@
 -- The rows of the rule to blame are true. One test computes on the whole table, and a row that passes it says what `Blames` says.
 use mathlib.Core.Path.{◌≡◌, refl, subst}
-use mathlib.Core.Bool.{Bool, true, false, not, ◌&&◌}
-use mathlib.Core.List.{List, [], ◌∷◌, Memᴰ as In}
-use Prim.Native.Nat.{ℕ}
+use mathlib.Core.Bool.{Bool, ◌&&◌}
+use mathlib.Core.List.{Memᴰ as In}
 use lib.Dec.{T, eqb, eqb→eq}
-use Rattle.model.specs.Events.{same_event}
-use Rattle.model.specs.Converters.{node, side_events, any_input, any_delayed, duty}
+use Rattle.model.specs.Converters.{any_input, any_delayed, duty}
 use Rattle.model.specs.Sides.{any_sent, kind}
 use Rattle.model.specs.Joined.{label_words, own_label, labelled}
 use Rattle.model.specs.Positions.{any}
-use Rattle.model.specs.Judged.{all, tally, same_list, same_events, with_move, with_moves, joint_moves, names?, once?, follows?, fulfils?, obeys?, matched?, until_by, always_for, Verdict, accepted, unmatched, violated, number, judged}
+use Rattle.model.specs.Judged.{all, tally, same_list, with_move, with_moves, joint_moves, names?, once?, follows?, fulfils?, obeys?, matched?, until_by, always_for, Verdict, accepted, unmatched, violated, number, judged}
 use Rattle.model.specs.Waits.{first}
 use Rattle.model.specs.Blame.{Blamed, first_fault}
-use Rattle.model.specs.RowData.{minus}
 use Rattle.model.specs.BlameRows.{BlameRow, Blames, blame_rows}
 use Rattle.model.proofs.Bools.{and_both}
 use Rattle.model.proofs.Lists.{all_in}

@@ -1,5 +1,5 @@
 -- `blocks::seal` meets its contract.
-use Rattle.std.proofs.Common.{◌+◌, ap, ◌∙◌, rules}
+use Rattle.std.proofs.Common.{◌+◌, ap, ◌∙◌}
 use Rattle.layout.specs.Bytes.{put, word_bytes}
 use Rattle.layout.proofs.blocks.seal.Goals as goal
 

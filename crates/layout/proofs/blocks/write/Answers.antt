@@ -1,5 +1,5 @@
 -- `blocks::write` meets its contract: header, records, zeros and check.
-use Rattle.std.proofs.Common.{arith, rules}
+use Rattle.std.proofs.Common.{arith}
 use Rattle.layout.specs.Bytes.{part}
 use Rattle.layout.proofs.Parts.{length_part}
 use Rattle.layout.proofs.Sealed.{block_put}

@@ -1,5 +1,5 @@
 -- `blocks::write_header` meets its contract: two stores and a word, one behind the other.
-use Rattle.std.proofs.Common.{◌+◌, [], ◌∷◌, refl, ap, ◌∙◌, arith, length-set, rules}
+use Rattle.std.proofs.Common.{◌+◌, [], ◌∷◌, refl, ap, ◌∙◌, arith, length-set}
 use Rattle.layout.specs.Bytes.{put, word_bytes}
 use Rattle.layout.proofs.Put.{put_pair, put_behind}
 use Rattle.layout.proofs.blocks.write_header.Goals as goal

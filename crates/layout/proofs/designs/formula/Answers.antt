@@ -1,5 +1,5 @@
 -- `designs::formula` meets its contract.
-use Rattle.std.proofs.Common.{◌+◌, ◌*◌, ap, ◌∙◌, arith, rules}
+use Rattle.std.proofs.Common.{◌+◌, ◌*◌, ap, ◌∙◌, arith}
 use Rattle.layout.specs.Sizes.{formula_bytes, records_in_block}
 use Rattle.layout.specs.Formulas.{formula_at}
 use Rattle.layout.specs.Designs.{stored_formula}

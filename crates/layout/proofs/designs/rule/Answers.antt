@@ -1,5 +1,5 @@
 -- `designs::rule` meets its contract.
-use Rattle.std.proofs.Common.{ap, ◌∙◌, arith, rules}
+use Rattle.std.proofs.Common.{ap, ◌∙◌, arith}
 use Rattle.layout.specs.Bytes.{byte}
 use Rattle.layout.proofs.DesignBytes.{stored_rule_is}
 use Rattle.layout.proofs.designs.rule.Goals as goal

@@ -1,5 +1,5 @@
 -- `designs::rule_count` meets its contract.
-use Rattle.std.proofs.Common.{◌+◌, sym, ap, ◌∙◌, arith, rules}
+use Rattle.std.proofs.Common.{◌+◌, sym, ap, ◌∙◌, arith}
 use Rattle.layout.specs.Sizes.{count_in_block}
 use Rattle.layout.specs.Bytes.{byte}
 use Rattle.layout.proofs.DesignBytes.{rules_length}

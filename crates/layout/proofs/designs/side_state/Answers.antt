@@ -1,5 +1,5 @@
 -- `designs::side_state` meets its contract: a side that has no block has a state that ticks.
-use Rattle.std.proofs.Common.{sym, ap, ◌∙◌, arith, rules}
+use Rattle.std.proofs.Common.{sym, ap, ◌∙◌, arith}
 use Rattle.layout.specs.Tables.{table, table_from}
 use Rattle.layout.specs.States.{state_at}
 use Rattle.layout.proofs.DesignBytes.{state_place, held_state, at_rest}

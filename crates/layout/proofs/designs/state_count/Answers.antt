@@ -1,5 +1,5 @@
 -- `designs::state_count` meets its contract: a side that has no block has one state.
-use Rattle.std.proofs.Common.{◌+◌, length, sym, ap, ◌∙◌, arith, rules}
+use Rattle.std.proofs.Common.{◌+◌, length, sym, ap, ◌∙◌, arith}
 use Rattle.layout.specs.Sizes.{count_in_block}
 use Rattle.layout.specs.Bytes.{byte}
 use Rattle.layout.proofs.DesignBytes.{side_at, resting_side, side_length}

@@ -1,9 +1,9 @@
 -- `designs::state_counts` meets its contract. The invariant: the counts of the sides before i are there.
-use Rattle.std.proofs.Common.{◌-◌, ◌≤◌, [], length, refl, ◌∙◌, arith, rules}
+use Rattle.std.proofs.Common.{[], length, refl, ◌∙◌, arith, rules}
 use Rattle.model.specs.Sides.{State}
 use Rattle.layout.specs.Sizes.{side_count}
 use Rattle.layout.specs.Designs.{design, side}
-use Rattle.layout.proofs.Tables.{FilledTo, filled_none, filled_more, filled_all, table_map}
+use Rattle.layout.proofs.Tables.{filled_none, filled_more, filled_all, table_map}
 use Rattle.layout.proofs.DesignBytes.{sides_length}
 use Rattle.layout.proofs.designs.state_counts.Goals as goal
 

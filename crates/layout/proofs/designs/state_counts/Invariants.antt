@@ -1,9 +1,7 @@
-use Rattle.std.proofs.Common.{◌-◌, ◌≤◌, [], length, refl, ◌∙◌, arith, rules}
-use Rattle.model.specs.Sides.{State}
+use Rattle.std.proofs.Common.{◌-◌, ◌≤◌, length}
 use Rattle.layout.specs.Sizes.{side_count}
 use Rattle.layout.specs.Designs.{design, side}
-use Rattle.layout.proofs.Tables.{FilledTo, filled_none, filled_more, filled_all, table_map}
-use Rattle.layout.proofs.DesignBytes.{sides_length}
+use Rattle.layout.proofs.Tables.{FilledTo}
 use Rattle.layout.proofs.designs.state_counts.Given as goal
 
 abbrev pub invariant-loop-i : goal.invariant-loop-i

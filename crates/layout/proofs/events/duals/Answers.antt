@@ -1,9 +1,9 @@
 -- `events::duals` meets its contract. The invariant: the first i events are negated.
-use Rattle.std.proofs.Common.{◌≡◌, ◌-◌, ◌≤◌, length, get_or, ap, ◌∙◌, arith, rules}
+use Rattle.std.proofs.Common.{◌≡◌, length, get_or, ap, ◌∙◌, arith, rules}
 use Rattle.model.specs.Events.{tick, dual}
 use Rattle.layout.specs.Sizes.{side_count}
 use Rattle.layout.proofs.SignedBytes.{read_back}
-use Rattle.layout.proofs.Tables.{FilledTo, filled_none, filled_more, filled_all, table_map}
+use Rattle.layout.proofs.Tables.{filled_none, filled_more, filled_all, table_map}
 use Rattle.layout.proofs.events.duals.Goals as goal
 use Rattle.layout.proofs.events.duals.Goals.{Start}
 

@@ -1,8 +1,7 @@
-use Rattle.std.proofs.Common.{◌≡◌, ◌-◌, ◌≤◌, length, get_or, ap, ◌∙◌, arith, rules}
+use Rattle.std.proofs.Common.{◌-◌, ◌≤◌, get_or}
 use Rattle.model.specs.Events.{tick, dual}
 use Rattle.layout.specs.Sizes.{side_count}
-use Rattle.layout.proofs.SignedBytes.{read_back}
-use Rattle.layout.proofs.Tables.{FilledTo, filled_none, filled_more, filled_all, table_map}
+use Rattle.layout.proofs.Tables.{FilledTo}
 use Rattle.layout.proofs.events.duals.Given as goal
 
 abbrev pub invariant-loop-i : goal.invariant-loop-i

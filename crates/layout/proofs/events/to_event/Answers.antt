@@ -1,5 +1,5 @@
 -- `events::to_event` meets its contract: below 128 the byte is the number, and from 128 on -1 - (255 - b) is.
-use Rattle.std.proofs.Common.{◌≡◌, ◌-◌, negsuc, ◌-ℤ◌, ap, ◌∙◌, arith, w8, SFits, to_z, rules, le-ltb, lt-ltb}
+use Rattle.std.proofs.Common.{◌≡◌, ◌-◌, negsuc, ◌-ℤ◌, ap, ◌∙◌, arith, w8, SFits, to_z, le-ltb, lt-ltb}
 use mir.ValLaws.{to_z_pos}
 use Rattle.layout.specs.Bytes.{event_of}
 use Rattle.layout.proofs.SignedBytes.{read_back, below_zero}

@@ -1,6 +1,5 @@
 -- `formulas::read_formula` meets its contract: three bytes.
 use Rattle.layout.specs.Formulas.{formula_at}
-use Rattle.std.proofs.Common.{rules}
 use Rattle.layout.proofs.formulas.read_formula.Goals as goal
 
 pub returns : goal.returns

@@ -1,5 +1,5 @@
 -- `ranges::check_of` meets its contract. The invariant: acc is the check of the first i bytes.
-use Rattle.std.proofs.Common.{◌≡◌, ◌+◌, ◌-◌, ◌%◌, ◌≤◌, refl, ap, ◌∙◌, arith, rules}
+use Rattle.std.proofs.Common.{◌≡◌, ◌+◌, ◌%◌, refl, ap, ◌∙◌, arith, rules}
 use Rattle.layout.specs.Bytes.{byte, part, sum, check}
 use Rattle.layout.proofs.Parts.{check_more}
 use Rattle.layout.proofs.ranges.check_of.Goals as goal

@@ -1,6 +1,5 @@
-use Rattle.std.proofs.Common.{◌≡◌, ◌+◌, ◌-◌, ◌%◌, ◌≤◌, refl, ap, ◌∙◌, arith, rules}
-use Rattle.layout.specs.Bytes.{byte, part, sum, check}
-use Rattle.layout.proofs.Parts.{check_more}
+use Rattle.std.proofs.Common.{◌≡◌, ◌-◌, ◌≤◌}
+use Rattle.layout.specs.Bytes.{part, check}
 use Rattle.layout.proofs.ranges.check_of.Given as goal
 
 abbrev pub invariant-loop-i : goal.invariant-loop-i

@@ -1,5 +1,5 @@
 -- `ranges::copy` meets its contract. The invariant: i bytes are put.
-use Rattle.std.proofs.Common.{◌≡◌, ◌+◌, ◌-◌, ◌≤◌, length, set, sym, ap, ◌∙◌, arith, rules}
+use Rattle.std.proofs.Common.{◌≡◌, ◌+◌, length, set, sym, ap, ◌∙◌, arith, rules}
 use Rattle.layout.specs.Bytes.{byte, part, put}
 use Rattle.layout.proofs.Parts.{length_part}
 use Rattle.layout.proofs.Put.{put_nil, copy_next, length_put}

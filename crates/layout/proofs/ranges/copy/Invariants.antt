@@ -1,7 +1,5 @@
-use Rattle.std.proofs.Common.{◌≡◌, ◌+◌, ◌-◌, ◌≤◌, length, set, sym, ap, ◌∙◌, arith, rules}
-use Rattle.layout.specs.Bytes.{byte, part, put}
-use Rattle.layout.proofs.Parts.{length_part}
-use Rattle.layout.proofs.Put.{put_nil, copy_next, length_put}
+use Rattle.std.proofs.Common.{◌≡◌, ◌-◌, ◌≤◌}
+use Rattle.layout.specs.Bytes.{part, put}
 use Rattle.layout.proofs.ranges.copy.Given as goal
 
 abbrev pub invariant-loop-i : goal.invariant-loop-i

@@ -1,5 +1,5 @@
 -- `ranges::fill` meets its contract. The invariant: i bytes are put.
-use Rattle.std.proofs.Common.{◌≡◌, ◌+◌, ◌-◌, ◌≤◌, length, set, replicate, sym, ap, ◌∙◌, arith, rules}
+use Rattle.std.proofs.Common.{◌≡◌, ◌+◌, length, set, replicate, sym, ap, ◌∙◌, arith, rules}
 use lib.ListN.{length-replicate}
 use Rattle.layout.specs.Bytes.{put}
 use Rattle.layout.proofs.Put.{put_nil, fill_next, length_put}

@@ -1,7 +1,5 @@
-use Rattle.std.proofs.Common.{◌≡◌, ◌+◌, ◌-◌, ◌≤◌, length, set, replicate, sym, ap, ◌∙◌, arith, rules}
-use lib.ListN.{length-replicate}
+use Rattle.std.proofs.Common.{◌≡◌, ◌-◌, ◌≤◌, replicate}
 use Rattle.layout.specs.Bytes.{put}
-use Rattle.layout.proofs.Put.{put_nil, fill_next, length_put}
 use Rattle.layout.proofs.ranges.fill.Given as goal
 
 abbrev pub invariant-loop-i : goal.invariant-loop-i

@@ -1,6 +1,5 @@
 -- `ranges::is_zero` meets its contract. The invariant: the first i bytes are zero.
-use Rattle.std.proofs.Common.{◌≡◌, ℕ, ◌+◌, ◌-◌, ◌<◌, ◌≤◌, sym, not-suc-le-zero, arith, rules, below_more}
-use Rattle.layout.specs.Bytes.{byte}
+use Rattle.std.proofs.Common.{sym, not-suc-le-zero, arith, rules, below_more}
 use Rattle.layout.proofs.Parts.{zeros, not_zeros}
 use Rattle.layout.proofs.ranges.is_zero.Goals as goal
 

@@ -1,6 +1,5 @@
-use Rattle.std.proofs.Common.{◌≡◌, ℕ, ◌+◌, ◌-◌, ◌<◌, ◌≤◌, sym, not-suc-le-zero, arith, rules, below_more}
+use Rattle.std.proofs.Common.{◌≡◌, ℕ, ◌+◌, ◌-◌, ◌<◌, ◌≤◌}
 use Rattle.layout.specs.Bytes.{byte}
-use Rattle.layout.proofs.Parts.{zeros, not_zeros}
 use Rattle.layout.proofs.ranges.is_zero.Given as goal
 
 abbrev pub invariant-loop-i : goal.invariant-loop-i

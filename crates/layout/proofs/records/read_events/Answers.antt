@@ -1,10 +1,9 @@
 -- `records::read_events` meets its contract. The invariant: the first i events are read.
-use Rattle.std.proofs.Common.{◌+◌, ◌-◌, ◌≤◌, refl, ◌∙◌, arith, rules}
+use Rattle.std.proofs.Common.{refl, ◌∙◌, arith, rules}
 use Rattle.model.specs.Events.{tick}
 use Rattle.layout.specs.Sizes.{side_count}
-use Rattle.layout.specs.Bytes.{byte, event_of}
 use Rattle.layout.proofs.SignedBytes.{read_back}
-use Rattle.layout.proofs.Tables.{FilledTo, filled_none, filled_more, filled_all}
+use Rattle.layout.proofs.Tables.{filled_none, filled_more, filled_all}
 use Rattle.layout.proofs.records.read_events.Goals as goal
 
 pub loop-i-init : goal.loop-i-init

@@ -1,9 +1,8 @@
-use Rattle.std.proofs.Common.{◌+◌, ◌-◌, ◌≤◌, refl, ◌∙◌, arith, rules}
+use Rattle.std.proofs.Common.{◌+◌, ◌-◌, ◌≤◌}
 use Rattle.model.specs.Events.{tick}
 use Rattle.layout.specs.Sizes.{side_count}
 use Rattle.layout.specs.Bytes.{byte, event_of}
-use Rattle.layout.proofs.SignedBytes.{read_back}
-use Rattle.layout.proofs.Tables.{FilledTo, filled_none, filled_more, filled_all}
+use Rattle.layout.proofs.Tables.{FilledTo}
 use Rattle.layout.proofs.records.read_events.Given as goal
 
 abbrev pub invariant-loop-i : goal.invariant-loop-i

@@ -1,8 +1,7 @@
 -- `records::read_names` meets its contract. The invariant: the first i names are read.
-use Rattle.std.proofs.Common.{◌+◌, ◌-◌, ◌≤◌, refl, arith, rules}
+use Rattle.std.proofs.Common.{refl, arith, rules}
 use Rattle.layout.specs.Sizes.{side_count}
-use Rattle.layout.specs.Bytes.{byte}
-use Rattle.layout.proofs.Tables.{FilledTo, filled_none, filled_more, filled_all}
+use Rattle.layout.proofs.Tables.{filled_none, filled_more, filled_all}
 use Rattle.layout.proofs.records.read_names.Goals as goal
 
 pub loop-i-init : goal.loop-i-init

@@ -1,7 +1,7 @@
-use Rattle.std.proofs.Common.{◌+◌, ◌-◌, ◌≤◌, refl, arith, rules}
+use Rattle.std.proofs.Common.{◌+◌, ◌-◌, ◌≤◌}
 use Rattle.layout.specs.Sizes.{side_count}
 use Rattle.layout.specs.Bytes.{byte}
-use Rattle.layout.proofs.Tables.{FilledTo, filled_none, filled_more, filled_all}
+use Rattle.layout.proofs.Tables.{FilledTo}
 use Rattle.layout.proofs.records.read_names.Given as goal
 
 abbrev pub invariant-loop-i : goal.invariant-loop-i

@@ -1,8 +1,8 @@
 -- `records::read_record` meets its contract. The invariant: the first k places are read.
-use Rattle.std.proofs.Common.{◌-◌, ◌≤◌, replicate, refl, arith, lit<, rules}
+use Rattle.std.proofs.Common.{replicate, refl, arith, lit<, rules}
 use Rattle.layout.specs.Sizes.{place_count}
 use Rattle.layout.specs.Records.{no_transition, transition_at, record_at}
-use Rattle.layout.proofs.Tables.{FilledTo, filled_none, filled_more, filled_all}
+use Rattle.layout.proofs.Tables.{filled_none, filled_more, filled_all}
 use Rattle.layout.proofs.records.read_record.Goals as goal
 
 pub loop-k-init : goal.loop-k-init

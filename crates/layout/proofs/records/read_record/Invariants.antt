@@ -1,7 +1,7 @@
-use Rattle.std.proofs.Common.{◌-◌, ◌≤◌, replicate, refl, arith, lit<, rules}
+use Rattle.std.proofs.Common.{◌-◌, ◌≤◌}
 use Rattle.layout.specs.Sizes.{place_count}
-use Rattle.layout.specs.Records.{no_transition, transition_at, record_at}
-use Rattle.layout.proofs.Tables.{FilledTo, filled_none, filled_more, filled_all}
+use Rattle.layout.specs.Records.{no_transition, transition_at}
+use Rattle.layout.proofs.Tables.{FilledTo}
 use Rattle.layout.proofs.records.read_record.Given as goal
 
 abbrev pub invariant-loop-k : goal.invariant-loop-k

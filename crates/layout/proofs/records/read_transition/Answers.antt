@@ -1,6 +1,5 @@
 -- `records::read_transition` meets its contract.
 use Rattle.layout.specs.Records.{transition_at}
-use Rattle.std.proofs.Common.{rules}
 use Rattle.layout.proofs.records.read_transition.Goals as goal
 
 pub returns : goal.returns

@@ -1,12 +1,10 @@
 -- `records::same_events` meets its contract. The invariant: the first i events are the same.
-use Rattle.std.proofs.Common.{◌≡◌, ℕ, ◌-◌, ◌<◌, ◌≤◌, true, T, List, get_or, sym, ◌∙◌, subst, ap₂, not-suc-le-zero, arith, ext_get_or, rules, below_more}
-use borrow.Author.Tests.{not-true, not-false}
+use Rattle.std.proofs.Common.{◌≡◌, true, T, List, get_or, sym, ◌∙◌, subst, ap₂, not-suc-le-zero, arith, ext_get_or, rules, below_more}
 use Rattle.model.specs.Events.{Event, tick, same_event}
 use Rattle.model.specs.Judged.{same_events}
 use Rattle.model.proofs.Bools.{T_true, T_false}
 use Rattle.model.proofs.SameEvent.{same_event_eq, same_event_refl}
 use Rattle.model.proofs.JointMoves.{same_events_eq, eq_same_events}
-use Rattle.layout.specs.Sizes.{side_count}
 use Rattle.layout.proofs.SignedBytes.{read_back}
 use Rattle.layout.proofs.Tables.{true_T, false_T}
 use Rattle.layout.proofs.records.same_events.Goals as goal

@@ -1,5 +1,5 @@
 -- `records::write_events` meets its contract. The invariant: the first i events are put.
-use Rattle.std.proofs.Common.{◌≡◌, ℕ, ◌+◌, ◌-◌, ◌≤◌, length, get_or, set, sym, ap, ◌∙◌, ap₂, arith, rules}
+use Rattle.std.proofs.Common.{◌≡◌, ℕ, ◌+◌, length, get_or, set, sym, ap, ◌∙◌, ap₂, arith, rules}
 use Rattle.model.specs.Events.{tick}
 use Rattle.layout.specs.Sizes.{side_count}
 use Rattle.layout.specs.Tables.{table, table_from}

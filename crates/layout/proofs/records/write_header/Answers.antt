@@ -1,5 +1,5 @@
 -- `records::write_header` meets its contract: the names, and the count behind them.
-use Rattle.std.proofs.Common.{◌+◌, set, ap, ◌∙◌, arith, rules}
+use Rattle.std.proofs.Common.{◌+◌, set, ap, ◌∙◌, arith}
 use Rattle.layout.specs.Sizes.{side_count}
 use Rattle.layout.specs.Records.{names_to}
 use Rattle.layout.proofs.Put.{put_next}

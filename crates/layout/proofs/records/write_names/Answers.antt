@@ -1,5 +1,5 @@
 -- `records::write_names` meets its contract. The invariant: the first i names are put.
-use Rattle.std.proofs.Common.{◌≡◌, ℕ, ◌+◌, ◌-◌, ◌≤◌, length, get_or, set, sym, ap, ◌∙◌, arith, rules}
+use Rattle.std.proofs.Common.{◌≡◌, ℕ, ◌+◌, length, get_or, set, sym, ap, ◌∙◌, arith, rules}
 use Rattle.layout.specs.Sizes.{side_count}
 use Rattle.layout.specs.Tables.{table, table_from}
 use Rattle.layout.specs.Bytes.{put}

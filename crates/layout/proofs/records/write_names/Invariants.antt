@@ -1,9 +1,7 @@
-use Rattle.std.proofs.Common.{◌≡◌, ℕ, ◌+◌, ◌-◌, ◌≤◌, length, get_or, set, sym, ap, ◌∙◌, arith, rules}
+use Rattle.std.proofs.Common.{◌≡◌, ◌-◌, ◌≤◌, get_or}
 use Rattle.layout.specs.Sizes.{side_count}
-use Rattle.layout.specs.Tables.{table, table_from}
+use Rattle.layout.specs.Tables.{table}
 use Rattle.layout.specs.Bytes.{put}
-use Rattle.layout.proofs.Tables.{length_table}
-use Rattle.layout.proofs.Put.{put_nil, put_table_next, length_put}
 use Rattle.layout.proofs.records.write_names.Given as goal
 
 abbrev pub invariant-loop-i : goal.invariant-loop-i

@@ -1,5 +1,5 @@
 -- `records::write_places` meets its contract. The invariant: k places are put.
-use Rattle.std.proofs.Common.{◌≡◌, ◌+◌, ◌-◌, ◌*◌, ◌≤◌, length, get_or, sym, ap, ◌∙◌, arith, rules}
+use Rattle.std.proofs.Common.{◌≡◌, ◌+◌, ◌*◌, length, get_or, sym, ap, ◌∙◌, arith, rules}
 use mathlib.Core.List.{flatten}
 use Rattle.layout.specs.Sizes.{place_count, transition_bytes}
 use Rattle.layout.specs.Tables.{table, table_from}

@@ -1,5 +1,5 @@
 -- `records::write_record` meets its contract: the header, and behind it the places.
-use Rattle.std.proofs.Common.{◌+◌, ap, ◌∙◌, arith, rules}
+use Rattle.std.proofs.Common.{◌+◌, ap, ◌∙◌, arith}
 use Rattle.layout.specs.Sizes.{places_at}
 use Rattle.layout.specs.Bytes.{put}
 use Rattle.layout.specs.Records.{header_to, places_to}

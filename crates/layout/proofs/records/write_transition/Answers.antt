@@ -1,5 +1,5 @@
 -- `records::write_transition` meets its contract: the events, a zero, and the next record.
-use Rattle.std.proofs.Common.{◌+◌, [], ◌∷◌, ◌++◌, length, set, ap, ◌∙◌, append_assoc, arith, length-append, length-set, rules}
+use Rattle.std.proofs.Common.{◌+◌, [], ◌∷◌, ◌++◌, set, ap, ◌∙◌, append_assoc, arith, length-append, length-set, rules}
 use Rattle.layout.specs.Sizes.{side_count, next_at}
 use Rattle.layout.specs.Bytes.{put, word_bytes}
 use Rattle.layout.specs.Records.{events_to}

@@ -1,7 +1,6 @@
 -- `states::read_place` meets its contract.
 use Rattle.layout.specs.States.{place_at}
 use Rattle.layout.proofs.SignedBytes.{read_back}
-use Rattle.std.proofs.Common.{rules}
 use Rattle.layout.proofs.states.read_place.Goals as goal
 
 pub returns : goal.returns

@@ -1,5 +1,5 @@
 -- `states::used_place` meets its contract.
-use Rattle.std.proofs.Common.{sym, arith, rules}
+use Rattle.std.proofs.Common.{sym, arith}
 use Rattle.layout.proofs.RecordMoves.{move_at, move_past}
 use Rattle.layout.proofs.states.used_place.Goals as goal
 

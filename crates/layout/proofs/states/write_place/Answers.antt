@@ -1,5 +1,5 @@
 -- `states::write_place` meets its contract: two stores, one behind the other.
-use Rattle.std.proofs.Common.{◌+◌, set, ap, ◌∙◌, arith, length-set, rules}
+use Rattle.std.proofs.Common.{◌+◌, set, ap, ◌∙◌, arith, length-set}
 use Rattle.layout.specs.Bytes.{event_byte}
 use Rattle.layout.proofs.SignedBytes.{read_back}
 use Rattle.layout.proofs.Put.{put_pair}

@@ -1,5 +1,5 @@
 -- `states::write_places` meets its contract. The invariant: k places are put.
-use Rattle.std.proofs.Common.{◌≡◌, ◌+◌, ◌-◌, ◌*◌, ◌≤◌, length, sym, ap, ◌∙◌, ap₂, arith, rules}
+use Rattle.std.proofs.Common.{◌≡◌, ◌+◌, ◌*◌, length, sym, ap, ◌∙◌, ap₂, arith, rules}
 use mathlib.Core.List.{flatten}
 use Rattle.layout.specs.Sizes.{place_count, move_bytes}
 use Rattle.layout.specs.Tables.{table, table_from}

@@ -1,12 +1,8 @@
-use Rattle.std.proofs.Common.{◌≡◌, ◌+◌, ◌-◌, ◌*◌, ◌≤◌, length, sym, ap, ◌∙◌, ap₂, arith, rules}
-use mathlib.Core.List.{flatten}
-use Rattle.layout.specs.Sizes.{place_count, move_bytes}
-use Rattle.layout.specs.Tables.{table, table_from}
+use Rattle.std.proofs.Common.{◌≡◌, ◌-◌, ◌≤◌}
+use Rattle.layout.specs.Sizes.{place_count}
 use Rattle.layout.specs.Bytes.{put}
-use Rattle.layout.specs.States.{state_of, move_to, moves_to}
-use Rattle.layout.proofs.Pieces.{pieces_more}
-use Rattle.layout.proofs.Put.{put_behind, put_nil, length_put}
-use Rattle.layout.proofs.StateBytes.{nth_move_to, first_moves_to, length_first_moves}
+use Rattle.layout.specs.States.{state_of}
+use Rattle.layout.proofs.StateBytes.{first_moves_to}
 use Rattle.layout.proofs.states.write_places.Given as goal
 
 abbrev pub invariant-loop-k : goal.invariant-loop-k

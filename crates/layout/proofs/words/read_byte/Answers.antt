@@ -1,5 +1,5 @@
 -- `words::read_byte` meets its contract: a byte fits.
-use Rattle.std.proofs.Common.{arith, rules}
+use Rattle.std.proofs.Common.{arith}
 use Rattle.layout.proofs.words.read_byte.Goals as goal
 
 pub overflow_cast-result : goal.overflow_cast-result

@@ -1,5 +1,5 @@
 -- `words::read_word` meets its contract: two bytes make a number below 65,536.
-use Rattle.std.proofs.Common.{◌+◌, arith, rules}
+use Rattle.std.proofs.Common.{◌+◌, arith}
 use Rattle.layout.proofs.words.read_word.Goals as goal
 
 pub overflow_cast-result : goal.overflow_cast-result

@@ -1,5 +1,5 @@
 -- `words::write_word` meets its contract: two stores, one behind the other.
-use Rattle.std.proofs.Common.{◌/◌, ◌%◌, arith, rules}
+use Rattle.std.proofs.Common.{◌/◌, ◌%◌, arith}
 use Rattle.layout.proofs.Put.{put_pair}
 use Rattle.layout.proofs.words.write_word.Goals as goal
 

@@ -3,7 +3,6 @@ use mathlib.Core.Path.{ap₂}
 use mathlib.Core.Bool.{Bool}
 use lib.Dec.{eqb}
 use Rattle.refusals.specs.Refusals.{check_right}
-use borrow.Author.Rules.{rules}
 use Rattle.refusals.proofs.blocks.check_right.Goals as goal
 
 pub returns : goal.returns

@@ -8,7 +8,6 @@ use lib.Dec.{leb}
 use Rattle.layout.specs.Sizes.{count_in_block}
 use Rattle.layout.specs.Bytes.{byte}
 use Rattle.refusals.specs.Refusals.{count_right}
-use borrow.Author.Rules.{rules}
 use Rattle.refusals.proofs.blocks.count_right.Goals as goal
 
 pub returns-then-least-n : goal.returns-then-least-n

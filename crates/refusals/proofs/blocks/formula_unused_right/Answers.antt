@@ -6,7 +6,6 @@ use Rattle.layout.specs.Bytes.{byte, all_zero}
 use Rattle.layout.specs.Formulas.{form_at, formula_at, formula_of, absent}
 use Rattle.layout.specs.Unused.{unused}
 use Rattle.refusals.proofs.ZeroBytes.{nonzero_first, zero_first}
-use borrow.Author.Rules.{rules}
 use Rattle.refusals.proofs.blocks.formula_unused_right.Goals as goal
 
 pub returns-then-read_byte-ne0 : goal.returns-then-read_byte-ne0

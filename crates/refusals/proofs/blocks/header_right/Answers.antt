@@ -5,7 +5,6 @@ use borrow.Author.Tests.{eq-eqb, ne_eqb}
 use lib.Dec.{eqb}
 use Rattle.layout.specs.Bytes.{byte}
 use Rattle.refusals.specs.Refusals.{header_right}
-use borrow.Author.Rules.{rules}
 use Rattle.refusals.proofs.blocks.header_right.Goals as goal
 
 pub returns-then-read_byte-kind : goal.returns-then-read_byte-kind

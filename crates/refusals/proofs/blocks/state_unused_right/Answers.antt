@@ -8,7 +8,6 @@ use Rattle.layout.specs.Sizes.{place_count, count_at, places_at, gap_at, move_by
 use Rattle.layout.specs.Bytes.{byte, part, all_zero}
 use Rattle.layout.specs.Unused.{places_behind, unused}
 use Rattle.refusals.proofs.ZeroBytes.{nonzero_first, zero_first}
-use borrow.Author.Rules.{rules}
 use Rattle.refusals.proofs.blocks.state_unused_right.Goals as goal
 
 pub returns-then-read_byte-ne0 : goal.returns-then-read_byte-ne0

@@ -1,8 +1,6 @@
 -- `converters::converter_refusal` meets its contract: the first test that fails.
 use mathlib.Core.Path.{sym, ◌∙◌}
-use borrow.Author.Tests.{not-true, not-false}
 use Rattle.refusals.specs.Refusals.{first_failing, converter_refusal}
-use borrow.Author.Rules.{rules}
 use Rattle.refusals.proofs.converters.converter_refusal.Goals as goal
 
 pub returns-then-not-size_right : goal.returns-then-not-size_right

@@ -2,7 +2,6 @@
 use mathlib.Core.Path.{ap, ◌∙◌}
 use Rattle.layout.specs.Records.{edge_of}
 use Rattle.layout.proofs.ConverterBytes.{edge_read}
-use borrow.Author.Rules.{rules}
 use Rattle.refusals.proofs.converters.edge_at.Goals as goal
 
 pub returns : goal.returns

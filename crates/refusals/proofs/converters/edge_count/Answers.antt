@@ -1,7 +1,6 @@
 -- `converters::edge_count` meets its contract: the record's count.
 use mathlib.Core.Path.{◌∙◌}
 use Rattle.layout.proofs.ConverterBytes.{edges_at}
-use borrow.Author.Rules.{rules}
 use Rattle.refusals.proofs.converters.edge_count.Goals as goal
 
 pub returns : goal.returns

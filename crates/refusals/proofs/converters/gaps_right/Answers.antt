@@ -1,15 +1,12 @@
 -- `converters::gaps_right` meets its contract. The invariant: the byte is zero in each of the first k places.
-use mathlib.Core.Path.{◌≡◌, sym, ap, ◌∙◌}
-use mathlib.Core.List.{List}
-use Prim.Native.Nat.{ℕ, ◌+◌, ◌-◌, ◌*◌, ◌≤◌, ◌<◌}
+use mathlib.Core.Path.{sym, ap, ◌∙◌}
+use Prim.Native.Nat.{◌<◌}
 use native.Mathlib.Nat.{not-suc-le-zero}
 use native.Mathlib.Omega.{arith}
 use borrow.Author.Count.{below_more}
 use borrow.Author.Tests.{eq-eqb, ne_eqb}
 use lib.Dec.{eqb}
-use lib.ListN.{length}
-use Rattle.layout.specs.Sizes.{side_count, places_at, transition_bytes}
-use Rattle.layout.specs.Bytes.{byte, all_zero}
+use Rattle.layout.specs.Bytes.{all_zero}
 use Rattle.layout.specs.Unused.{place_gaps}
 use Rattle.layout.proofs.Tables.{all_true, all_false, length_table, entry}
 use borrow.Author.Rules.{rules}

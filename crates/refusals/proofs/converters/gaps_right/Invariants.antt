@@ -1,17 +1,8 @@
-use mathlib.Core.Path.{◌≡◌, sym, ap, ◌∙◌}
+use mathlib.Core.Path.{◌≡◌}
 use mathlib.Core.List.{List}
 use Prim.Native.Nat.{ℕ, ◌+◌, ◌-◌, ◌*◌, ◌≤◌, ◌<◌}
-use native.Mathlib.Nat.{not-suc-le-zero}
-use native.Mathlib.Omega.{arith}
-use borrow.Author.Count.{below_more}
-use borrow.Author.Tests.{eq-eqb, ne_eqb}
-use lib.Dec.{eqb}
-use lib.ListN.{length}
 use Rattle.layout.specs.Sizes.{side_count, places_at, transition_bytes}
-use Rattle.layout.specs.Bytes.{byte, all_zero}
-use Rattle.layout.specs.Unused.{place_gaps}
-use Rattle.layout.proofs.Tables.{all_true, all_false, length_table, entry}
-use borrow.Author.Rules.{rules}
+use Rattle.layout.specs.Bytes.{byte}
 use Rattle.refusals.proofs.converters.gaps_right.Given as goal
 
 -- that byte of place j

@@ -1,7 +1,6 @@
 -- `converters::names` meets its contract: the record's first bytes.
 use mathlib.Core.Path.{◌∙◌}
 use Rattle.layout.proofs.ConverterBytes.{names_at}
-use borrow.Author.Rules.{rules}
 use Rattle.refusals.proofs.converters.names.Goals as goal
 
 pub returns : goal.returns

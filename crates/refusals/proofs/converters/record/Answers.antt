@@ -2,7 +2,6 @@
 use mathlib.Core.Path.{ap, ◌∙◌}
 use Rattle.layout.specs.Records.{node_of}
 use Rattle.layout.proofs.ConverterBytes.{node_at}
-use borrow.Author.Rules.{rules}
 use Rattle.refusals.proofs.converters.record.Goals as goal
 
 pub returns : goal.returns

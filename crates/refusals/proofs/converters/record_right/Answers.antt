@@ -4,7 +4,6 @@ use mathlib.Core.Bool.{◌&&◌}
 use mathlib.Core.List.{List}
 use Prim.Native.Nat.{ℕ, ◌+◌, ◌≤◌}
 use native.Mathlib.Omega.{arith}
-use borrow.Author.Tests.{not-true, not-false}
 use Rattle.layout.specs.Sizes.{place_count, edge_count_at, transition_bytes}
 use Rattle.layout.specs.Bytes.{byte, all_zero}
 use Rattle.layout.specs.Records.{record_at, node_of}
@@ -15,7 +14,6 @@ use Rattle.layout.proofs.Tables.{and_false, and_false_right}
 use Rattle.layout.proofs.ConverterBytes.{edges_of}
 use Rattle.layout.proofs.Nodes.{well_formed}
 use Rattle.refusals.proofs.ZeroBytes.{zeros_append}
-use borrow.Author.Rules.{rules}
 use Rattle.refusals.proofs.converters.record_right.Goals as goal
 use Rattle.refusals.proofs.converters.record_right.Goals.{After-node_right, After-read_record-r, Else-not-node_right}
 

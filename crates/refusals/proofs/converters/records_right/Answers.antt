@@ -1,12 +1,10 @@
 -- `converters::records_right` meets its contract. The invariant: the first k records are right.
 use mathlib.Core.Path.{◌≡◌, sym, ap, ◌∙◌}
-use mathlib.Core.Bool.{true}
-use Prim.Native.Nat.{ℕ, ◌-◌, ◌*◌, ◌<◌, ◌≤◌}
+use Prim.Native.Nat.{◌*◌}
 use native.Mathlib.Nat.{not-suc-le-zero}
 use native.Mathlib.Omega.{arith}
 use borrow.Author.Count.{below_more}
 use borrow.Author.Rules.{rules}
-use borrow.Author.Tests.{not-true, not-false}
 use Rattle.layout.specs.Sizes.{record_bytes}
 use Rattle.layout.specs.Converters.{records}
 use Rattle.refusals.specs.Refusals.{record_right, records_right}

@@ -1,15 +1,9 @@
-use mathlib.Core.Path.{◌≡◌, sym, ap, ◌∙◌}
+use mathlib.Core.Path.{◌≡◌}
 use mathlib.Core.Bool.{true}
 use Prim.Native.Nat.{ℕ, ◌-◌, ◌*◌, ◌<◌, ◌≤◌}
-use native.Mathlib.Nat.{not-suc-le-zero}
-use native.Mathlib.Omega.{arith}
-use borrow.Author.Count.{below_more}
-use borrow.Author.Rules.{rules}
-use borrow.Author.Tests.{not-true, not-false}
 use Rattle.layout.specs.Sizes.{record_bytes}
 use Rattle.layout.specs.Converters.{records}
-use Rattle.refusals.specs.Refusals.{record_right, records_right}
-use Rattle.layout.proofs.Tables.{every_true, every_false}
+use Rattle.refusals.specs.Refusals.{record_right}
 use Rattle.refusals.proofs.converters.records_right.Given as goal
 
 abbrev pub invariant-loop-k : goal.invariant-loop-k

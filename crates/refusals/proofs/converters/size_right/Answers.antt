@@ -5,7 +5,6 @@ use borrow.Author.Tests.{le-leb, lt-leb, eq-eqb, ne_eqb}
 use lib.ListN.{length}
 use Rattle.layout.specs.Sizes.{record_bytes}
 use Rattle.refusals.specs.Refusals.{size_right}
-use borrow.Author.Rules.{rules}
 use Rattle.refusals.proofs.converters.size_right.Goals as goal
 
 pub returns-then-s-eq0 : goal.returns-then-s-eq0

@@ -9,7 +9,6 @@ use Rattle.layout.specs.Designs.{side_block}
 use Rattle.refusals.specs.declared.design_tests.Asked.{Asked}
 use Rattle.refusals.specs.Counted.{asked_of}
 use Rattle.refusals.proofs.DesignBlocks.{side_is, formulas_is, rules_is}
-use borrow.Author.Rules.{rules}
 use Rattle.refusals.proofs.design_tests.asked_at.Goals as goal
 
 -- a side's block by the table of kinds

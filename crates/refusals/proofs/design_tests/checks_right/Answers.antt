@@ -1,12 +1,10 @@
 -- `design_tests::checks_right` meets its contract. The invariant: each of the first i blocks has a right check.
 use mathlib.Core.Path.{◌≡◌, sym, ◌∙◌}
-use mathlib.Core.Bool.{true}
 use mathlib.Core.List.{List}
-use Prim.Native.Nat.{ℕ, ◌+◌, ◌-◌, ◌≤◌, ◌<◌}
+use Prim.Native.Nat.{ℕ, ◌+◌, ◌<◌}
 use native.Mathlib.Nat.{not-suc-le-zero}
 use native.Mathlib.Omega.{arith}
 use borrow.Author.Count.{below_more}
-use borrow.Author.Tests.{not-true, not-false}
 use Rattle.layout.specs.Sizes.{other_blocks}
 use Rattle.layout.specs.Blocks.{kernel, design_blocks}
 use Rattle.layout.specs.Designs.{held}

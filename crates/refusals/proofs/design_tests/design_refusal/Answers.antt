@@ -3,19 +3,16 @@ use mathlib.Core.Path.{◌≡◌, refl, sym, ◌∙◌}
 use mathlib.Core.Bool.{true}
 use mathlib.Core.List.{List, []}
 use Prim.Native.Nat.{ℕ}
-use borrow.Author.Tests.{not-true, not-false}
-use lib.ListN.{drop}
 use Rattle.model.specs.Judged.{all}
 use Rattle.layout.specs.Blocks.{design_blocks}
 use Rattle.layout.specs.Designs.{held, Whole, design}
 use Rattle.refusals.specs.Counted.{Counted}
 use Rattle.layout.specs.Tests.{side_right}
-use Rattle.refusals.specs.Refusals.{first_failing, length_right, count_right, design_tests, design_refusal}
+use Rattle.refusals.specs.Refusals.{first_failing, length_right, count_right, design_refusal}
 use Rattle.refusals.proofs.Passing.{passes_on, stops_at}
 use Rattle.refusals.proofs.DesignBlocks.{length_whole}
 use Rattle.refusals.proofs.CountedBytes.{counted}
 use Rattle.layout.proofs.Tables.{true_T}
-use borrow.Author.Rules.{rules}
 use Rattle.refusals.proofs.design_tests.design_refusal.Goals as goal
 
 -- the bytes are as many as the blocks have, and the counts are within their limits

@@ -1,16 +1,7 @@
-use mathlib.Core.Path.{◌≡◌, sym, ap, ◌∙◌}
-use mathlib.Core.Bool.{true, ◌&&◌}
+use mathlib.Core.Path.{◌≡◌}
+use mathlib.Core.Bool.{true}
 use Prim.Native.Nat.{ℕ, ◌-◌, ◌≤◌, ◌<◌}
-use native.Mathlib.Nat.{not-suc-le-zero}
-use native.Mathlib.Omega.{arith}
-use borrow.Author.Count.{below_more}
-use borrow.Author.Tests.{not-true, not-false}
-use lib.ListN.{length}
-use Rattle.layout.specs.Formulas.{known_kind, formula_of}
-use Rattle.layout.specs.Tests.{form_right}
-use Rattle.layout.specs.Designs.{design}
-use Rattle.refusals.proofs.DesignFormulas.{passes, formulas_pass, formula_fails}
-use borrow.Author.Rules.{rules}
+use Rattle.refusals.proofs.DesignFormulas.{passes}
 use Rattle.refusals.proofs.design_tests.each_formula_right.Given as goal
 
 abbrev pub invariant-loop-k : goal.invariant-loop-k

@@ -1,16 +1,9 @@
-use mathlib.Core.Path.{◌≡◌, sym}
+use mathlib.Core.Path.{◌≡◌}
 use mathlib.Core.Bool.{true}
 use Prim.Native.Nat.{ℕ, ◌-◌, ◌≤◌, ◌<◌}
-use native.Mathlib.Nat.{not-suc-le-zero}
-use native.Mathlib.Omega.{arith}
-use borrow.Author.Count.{below_more}
-use borrow.Author.Tests.{lt-ltb, le-ltb}
 use lib.Dec.{ltb}
 use lib.ListN.{length, get_or}
 use Rattle.layout.specs.Designs.{design}
-use Rattle.layout.specs.Tests.{rules_right}
-use Rattle.layout.proofs.Tables.{all_true, all_false}
-use borrow.Author.Rules.{rules}
 use Rattle.refusals.proofs.design_tests.each_rule_right.Given as goal
 
 abbrev pub invariant-loop-k : goal.invariant-loop-k

@@ -5,7 +5,6 @@ use lib.ListN.{length}
 use Rattle.layout.specs.Designs.{design}
 use Rattle.layout.specs.Tests.{rules_right}
 use Rattle.refusals.specs.Refusals.{formulas_right}
-use borrow.Author.Rules.{rules}
 use Rattle.refusals.proofs.design_tests.formulas_right.Goals as goal
 
 pub returns-then-each_formula_right : goal.returns-then-each_formula_right

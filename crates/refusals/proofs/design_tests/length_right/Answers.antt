@@ -3,7 +3,6 @@ use borrow.Author.Tests.{eq-eqb, ne_eqb}
 use lib.ListN.{length}
 use Rattle.layout.specs.Sizes.{least_sides}
 use Rattle.refusals.specs.Refusals.{design_bytes, length_right}
-use borrow.Author.Rules.{rules}
 use Rattle.refusals.proofs.design_tests.length_right.Goals as goal
 
 pub returns-then-s : goal.returns-then-s

@@ -2,7 +2,6 @@
 use mathlib.Core.Path.{sym, ap₂, ◌∙◌}
 use native.Mathlib.Omega.{arith}
 use Rattle.refusals.proofs.DesignUnused.{behind_zero, rules_unused}
-use borrow.Author.Rules.{rules}
 use Rattle.refusals.proofs.design_tests.rules_unused_right.Goals as goal
 
 pub behind_right-requires : goal.behind_right-requires

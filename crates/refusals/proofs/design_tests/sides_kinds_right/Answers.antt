@@ -1,15 +1,12 @@
 -- `design_tests::sides_kinds_right` meets its contract. The invariant: each of the first i sides passes.
-use mathlib.Core.Path.{◌≡◌, sym, ◌∙◌}
-use mathlib.Core.Bool.{true}
-use Prim.Native.Nat.{ℕ, ◌-◌, ◌≤◌, ◌<◌}
+use mathlib.Core.Path.{sym, ◌∙◌}
+use Prim.Native.Nat.{◌<◌}
 use native.Mathlib.Nat.{not-suc-le-zero}
 use native.Mathlib.Omega.{arith}
 use borrow.Author.Count.{below_more}
-use borrow.Author.Tests.{not-true, not-false}
 use mathlib.Core.List.{[]}
 use lib.ListN.{length}
-use Rattle.layout.specs.Sizes.{side_count}
-use Rattle.layout.specs.Designs.{design, side}
+use Rattle.layout.specs.Designs.{design}
 use Rattle.layout.specs.Tests.{side_right, kinds_right}
 use Rattle.layout.proofs.DesignBytes.{sides_length}
 use Rattle.model.proofs.Lists.{all_in, getD_in}

@@ -1,14 +1,10 @@
 -- `design_tests::sides_right` meets its contract. The invariant: each of the first i sides passes.
-use mathlib.Core.Path.{◌≡◌, sym, ◌∙◌}
-use mathlib.Core.Bool.{true}
-use Prim.Native.Nat.{ℕ, ◌-◌, ◌≤◌, ◌<◌}
+use mathlib.Core.Path.{sym, ◌∙◌}
 use native.Mathlib.Nat.{not-suc-le-zero}
 use native.Mathlib.Omega.{arith}
 use borrow.Author.Count.{below_more}
-use borrow.Author.Tests.{not-true, not-false}
 use mathlib.Core.List.{[]}
-use Rattle.layout.specs.Sizes.{side_count}
-use Rattle.layout.specs.Designs.{design, side}
+use Rattle.layout.specs.Designs.{design}
 use Rattle.layout.specs.Tests.{side_right}
 use Rattle.layout.proofs.DesignBytes.{sides_length}
 use Rattle.layout.proofs.Tables.{all_true, all_false}

@@ -1,15 +1,13 @@
 -- `design_tests::sides_unused_right` meets its contract. The invariant: each of the first i blocks passes.
-use mathlib.Core.Path.{◌≡◌, sym, ap, ◌∙◌}
-use mathlib.Core.Bool.{true}
-use Prim.Native.Nat.{ℕ, ◌-◌, ◌≤◌, ◌<◌}
+use mathlib.Core.Path.{sym, ap, ◌∙◌}
+use Prim.Native.Nat.{◌<◌}
 use native.Mathlib.Nat.{not-suc-le-zero}
 use native.Mathlib.Omega.{arith}
 use borrow.Author.Count.{below_more}
-use borrow.Author.Tests.{not-true, not-false}
-use lib.ListN.{length, take}
+use lib.ListN.{take}
 use lib.Seq.{length-take-le, get_or-take}
 use Rattle.layout.specs.Blocks.{kernel, side_blocks}
-use Rattle.layout.specs.Designs.{held, side_block}
+use Rattle.layout.specs.Designs.{held}
 use Rattle.refusals.specs.Refusals.{unused_right}
 use Rattle.layout.proofs.Tables.{all_true, all_false}
 use borrow.Author.Rules.{rules}

@@ -1,7 +1,6 @@
 -- `design_tests::unused_right` meets its contract.
 use mathlib.Core.Path.{sym, ap, ◌∙◌}
 use mathlib.Core.Bool.{◌&&◌}
-use borrow.Author.Tests.{not-true, not-false}
 use Rattle.layout.specs.Blocks.{formulas, rules}
 use Rattle.layout.specs.Designs.{held}
 use Rattle.refusals.specs.Refusals.{unused_right}

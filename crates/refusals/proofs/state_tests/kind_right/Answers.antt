@@ -1,12 +1,10 @@
 -- `state_tests::kind_right` meets its contract.
 use mathlib.Core.Path.{◌≡◌, sym, ap, ◌∙◌}
 use mathlib.Core.Bool.{true, ◌||◌}
-use borrow.Author.Tests.{not-true, not-false}
 use Rattle.model.specs.Sides.{any_sent}
 use Rattle.layout.specs.States.{state_of}
 use Rattle.layout.specs.Tests.{sends_or_waits}
 use Rattle.refusals.proofs.StateRecords.{turned_round, unsent_passes, single_passes, other_fails, two_decides}
-use borrow.Author.Rules.{rules}
 use Rattle.refusals.proofs.state_tests.kind_right.Goals as goal
 use Rattle.refusals.proofs.state_tests.kind_right.Goals.{Else-not-sends}
 

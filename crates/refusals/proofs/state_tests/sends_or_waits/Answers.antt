@@ -1,9 +1,7 @@
 -- `state_tests::sends_or_waits` meets its contract.
 use mathlib.Core.Path.{◌≡◌, sym, ap, ◌∙◌}
-use borrow.Author.Tests.{not-true, not-false}
 use Rattle.model.specs.Events.{tick, sent, same_event}
 use Rattle.layout.proofs.SignedBytes.{read_back}
-use borrow.Author.Rules.{rules}
 use Rattle.refusals.proofs.state_tests.sends_or_waits.Goals as goal
 use Rattle.refusals.proofs.state_tests.sends_or_waits.Goals.{After-is_sent, After-same}
 

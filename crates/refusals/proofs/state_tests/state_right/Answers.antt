@@ -1,10 +1,8 @@
 -- `state_tests::state_right` meets its contract. The invariant: each of the first k places is right.
 use mathlib.Core.Path.{◌≡◌, sym, ap, ◌∙◌}
-use Prim.Native.Nat.{ℕ, ◌-◌, ◌≤◌, ◌<◌}
 use native.Mathlib.Nat.{not-suc-le-zero}
 use native.Mathlib.Omega.{arith}
 use borrow.Author.Count.{below_more}
-use borrow.Author.Tests.{not-true, not-false}
 use borrow.Author.Rules.{rules}
 use Rattle.layout.specs.Tests.{in_range}
 use Rattle.layout.proofs.SignedBytes.{read_back}

@@ -1,5 +1,5 @@
 -- `FormulaRecord::absent_right` meets its contract: what each branch knows of the kind and the operands gives the answer.
-use Rattle.std.proofs.Common.{sym, ◌∙◌, arith, rules}
+use Rattle.std.proofs.Common.{sym, ◌∙◌, arith}
 use Rattle.layout.proofs.FormulaRecords.{absent_two, absent_second, absent_low, absent_high, absent_one}
 use Rattle.layout.proofs.formulas.FormulaRecord.absent_right.Goals as goal
 

@@ -1,5 +1,5 @@
 -- `FormulaRecord::is_right` meets its contract: what each branch knows of the kind and the operands gives the answer.
-use Rattle.std.proofs.Common.{sym, ◌∙◌, arith, rules}
+use Rattle.std.proofs.Common.{sym, ◌∙◌, arith}
 use Rattle.layout.proofs.FormulaRecords.{right_low, right_high, right_constant, right_proposition, right_not_lower, right_two, right_one}
 use Rattle.layout.proofs.formulas.FormulaRecord.is_right.Goals as goal
 

@@ -1,5 +1,5 @@
 -- `Record::add` meets its contract, by what `has` and the count say.
-use Rattle.std.proofs.Common.{sym, ◌∙◌, rules, le-ltb, lt-ltb}
+use Rattle.std.proofs.Common.{sym, ◌∙◌, le-ltb, lt-ltb}
 use Rattle.layout.specs.Records.{added}
 use Rattle.layout.proofs.records.Record.add.Goals as goal
 

@@ -1,5 +1,5 @@
 -- `Record::has` meets its contract. The invariant: none of the first k transitions has the events.
-use Rattle.std.proofs.Common.{◌≡◌, ℕ, ◌-◌, ◌<◌, ◌≤◌, false, not, get_or, sym, ap, ◌∙◌, not-suc-le-zero, arith, rules, below_more}
+use Rattle.std.proofs.Common.{not, get_or, sym, ap, ◌∙◌, not-suc-le-zero, arith, rules, below_more}
 use Rattle.model.specs.Judged.{same_events}
 use Rattle.layout.specs.Records.{no_transition, present}
 use Rattle.layout.proofs.Tables.{every_true, every_false}

@@ -1,7 +1,6 @@
-use Rattle.std.proofs.Common.{◌≡◌, ℕ, ◌-◌, ◌<◌, ◌≤◌, false, not, get_or, sym, ap, ◌∙◌, not-suc-le-zero, arith, rules, below_more}
+use Rattle.std.proofs.Common.{◌≡◌, ℕ, ◌-◌, ◌<◌, ◌≤◌, false, get_or}
 use Rattle.model.specs.Judged.{same_events}
-use Rattle.layout.specs.Records.{no_transition, present}
-use Rattle.layout.proofs.Tables.{every_true, every_false}
+use Rattle.layout.specs.Records.{no_transition}
 use Rattle.layout.proofs.records.Record.has.Given as goal
 
 abbrev pub invariant-loop-k : goal.invariant-loop-k
