@@ -7,9 +7,8 @@ mod typed;
 use std::array::from_fn;
 
 use checker::bytes::{
-    converter_bytes, idle_side, positions, read_blocks, read_converter_memory, read_design,
-    write_blocks, Design, Formula, State, Transition, BLOCK_BYTES, BLOCK_RECORDS, PROPOSITIONS,
-    RECORD_BYTES, SIDES, SIDE_LABELS,
+    converter_bytes, idle_side, positions, read_blocks, read_design, write_blocks, Design, Formula,
+    State, Transition, BLOCK_BYTES, BLOCK_RECORDS, PROPOSITIONS, RECORD_BYTES, SIDES, SIDE_LABELS,
 };
 use checker::generate::{
     any_bytes, any_converter, any_design, any_ranges, any_text, block_file, damage, damage_text,
@@ -90,26 +89,6 @@ fn judge_agrees(
     answer?;
     waits.truncate(read_design(bytes)?.rules.len());
     Ok(waits)
-}
-
-/// The verdict of the baseline, and that of the checker: its judge's with a list that is long
-/// enough, and the first of the rules that fail. The place of that rule, none after a yes, or the
-/// number of another refusal.
-fn verdict_agrees(bytes: &[u8], converter: &[u8], work_length: usize) -> Result<Option<u8>, u8> {
-    let (mut work, mut other_work) = (pattern(work_length), pattern(work_length));
-    let unnamed = 99;
-    let mut rule = unnamed;
-    let answer = baseline::verdict(bytes, converter, &mut work, &mut rule);
-    let other = checker::judge(bytes, converter, &mut other_work, &mut [0; 16]);
-    assert_eq!(answer, other);
-    assert!(work == other_work);
-    if answer != Err(15) {
-        assert_eq!(rule, unnamed);
-        return answer.map(|()| None);
-    }
-    let (design, records) = (read_design(bytes)?, read_converter_memory(converter)?);
-    assert_eq!(usize::from(rule), failing_rules(&design, &records)[0], "{records:?} {design:?}");
-    Ok(Some(rule))
 }
 
 #[test]
@@ -228,45 +207,10 @@ fn judgements() {
         let waits_length = about(&mut random, made.rules.len());
         let answer = judge_agrees(&bytes, &converter, work_length, waits_length);
         answers[usize::from(answer.err().unwrap_or(0))] += 1;
-        let _ = verdict_agrees(&bytes, &converter, work_length);
     }
     for number in [0, 1, 2, 5, 7, 8, 10, 11, 12, 13, 14, 15] {
         assert!(answers[number] > 20, "{number}: {answers:?}");
     }
-}
-
-/// So many rules hold, the next one fails, and whatever stands behind it; or sixteen hold.
-#[test]
-fn verdicts() {
-    let mut random = Random::new(209);
-    let mut places = [0; 17];
-    for round in 0..17_000 {
-        let mut made = any_design(&mut random);
-        let spare = random.below(40);
-        let converter = matched_converter(&mut random, &made, spare);
-        made.rules = (0..made.formulas.len() as u8).collect();
-        let failing = failing_rules(&made, &converter);
-        let (fails, holds): (Vec<u8>, Vec<u8>) =
-            made.rules.iter().copied().partition(|&rule| failing.contains(&usize::from(rule)));
-        let place = round % 17;
-        if fails.is_empty() || holds.is_empty() {
-            continue;
-        }
-        let mut rules: Vec<u8> = (0..place).map(|_| *random.pick(&holds)).collect();
-        rules.push(*random.pick(&fails));
-        let behind = random.below(16);
-        rules.extend((0..behind).map(|_| *random.pick(&made.rules)));
-        rules.truncate(16);
-        made.rules = rules;
-        let bytes = converter_bytes(&converter);
-        let answer = verdict_agrees(&made.to_bytes(), &bytes, 16 * converter.len());
-        assert_eq!(answer, Ok((place < 16).then_some(place as u8)));
-        places[place] += 1;
-    }
-    println!(
-        "so many times the first rule that fails was at this place, or none failed: {places:?}"
-    );
-    assert!(places.iter().all(|&times| times > 200), "{places:?}");
 }
 
 /// Untils that hold under a matched converter, beside other rules: those that are met at the start

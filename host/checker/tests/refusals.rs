@@ -14,8 +14,8 @@ use checker::bytes::{
 use checker::generate::{loose_converter, Random};
 use checker::tick::Runner;
 use samples::{
-    figure_five, figure_five_with_faults, four_rules, handshake, judged, judged_waits, pattern,
-    record, ruled_handshake, state, state_at, with_faults, BEYOND,
+    figure_five, four_rules, handshake, judged, judged_waits, pattern, record, ruled_handshake,
+    state, state_at, with_faults, BEYOND,
 };
 
 /// Bytes that get other values, and the number with which they are then refused.
@@ -559,7 +559,17 @@ fn design_with(wrong: &BTreeSet<u8>, blocks: usize) -> Vec<u8> {
 #[test]
 fn order_of_the_judge() {
     for wrong in sets(&[1, 2, 3, 4, 5, 6, 7, 8, 10, 11, 12, 13, 14, 15]) {
-        let converter = figure_five_with_faults(|number| wrong.contains(&number));
+        let mut records = figure_five();
+        if wrong.contains(&14) {
+            records[0].links.pop();
+        }
+        let mut converter = converter_bytes(&records);
+        if wrong.contains(&11) {
+            converter[52 * 2 + 7] = 1;
+        }
+        if wrong.contains(&10) {
+            converter.push(0);
+        }
         // The four rules are of kind 9.
         let list = 4 - usize::from(wrong.contains(&12));
         let work = 48 - usize::from(wrong.contains(&13));

@@ -3,11 +3,11 @@
 
 mod samples;
 
-use checker::bytes::{check, converter_bytes, positions, read_design, Formula, SIDES};
+use checker::bytes::{check, converter_bytes, positions, read_design, Formula, Record, SIDES};
 use checker::judge::failing_rules;
 use checker::tick::Runner;
 use samples::{
-    design, enabling, figure_five, handshake, judged_well, leading_on, lock_and_menu,
+    design, figure_five, handshake, judged_well, leading_on, lock_and_menu,
     lock_and_menu_converter, mistaken_labels, next_sixteen_next_seventeen, record, rings,
     ruled_handshake, searched, state, ticking_in_turn, two_inputs, wait_leading_to,
 };
@@ -96,6 +96,11 @@ fn two_states_ticking_in_turn() {
     let design = ticking_in_turn();
     assert_eq!(positions(&design), 32);
     assert!(searched(&design).is_ok());
+}
+
+/// A converter for the two inputs that enables some of them.
+fn enabling(inputs: &[([i8; 2], u16)]) -> Vec<Record> {
+    vec![record([0, 0], inputs), record([0, 1], &[([0, 0], 1)]), record([0, 2], &[([0, 0], 2)])]
 }
 
 #[test]

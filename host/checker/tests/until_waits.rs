@@ -1,23 +1,19 @@
 //! How long rules wait: rows by hand, the list's length and its place among the refusals, and
 //! random converters, whose waits are found again by rounds and by their paths.
 
-mod drawn;
 mod samples;
 
 use std::array::from_fn;
 
-use checker::bytes::{converter_bytes, read_design, Design, Formula, Record, SIDES};
+use checker::bytes::{converter_bytes, read_design, Design, Formula, Record, State, SIDES};
 use checker::ctl::{Model, States};
 use checker::generate::{any_bytes, design, matched_converter, Random, Shape};
 use checker::judge::model;
 use checker::waits::wait;
-use drawn::{
-    braid, chain, drawn, free_design, free_sides, leading_far, small_structures, TRUE_UNTIL_0,
-};
 use samples::{
-    figure_five, figure_five_with_faults, handshake, judged_waits, leading_on, lock_and_menu,
-    lock_and_menu_converter, numbers, record, searched, subsets, thumbnails, ticking_in_turn,
-    viewer_once, wait_leading_to, with_faults, BEYOND,
+    figure_five, handshake, judged_waits, leading_on, lock_and_menu, lock_and_menu_converter,
+    numbers, record, searched, state, thumbnails, ticking_in_turn, viewer_once, wait_leading_to,
+    with_faults, BEYOND,
 };
 
 /// What a rule gets that isn't of kind 8.
@@ -29,13 +25,47 @@ fn waits(design: &Design, converter: &[Record]) -> Result<Vec<u32>, u8> {
     judged_waits(&design.to_bytes(), &converter_bytes(converter), work, design.rules.len() + BEYOND)
 }
 
-/// Judges a drawn converter whose rules are these formulas.
+/// Sides that leave it to the converter where to go: each of the kernel's eight states goes to
+/// state n where it reads n, and the host has one state, which reads any of 0 to 7.
+fn free_sides(labels: [u16; 8]) -> [Vec<State>; SIDES] {
+    let to_each: Vec<(i8, u8)> = (0..8).map(|number| (number, number as u8)).collect();
+    let kernel = labels.map(|label| State { label, ..state(&[], &to_each) }).to_vec();
+    let host = state(&[], &to_each.iter().map(|&(event, _)| (event, 0)).collect::<Vec<_>>());
+    [kernel, vec![host], vec![state(&[], &[(0, 0)])]]
+}
+
+/// A converter for free sides: for each record the kernel's state, and the records to which its
+/// transitions lead.
+fn drawn(records: &[(u8, Vec<usize>)]) -> Vec<Record> {
+    let drawn_record = |(named, next): &(u8, Vec<usize>)| {
+        let link = |(place, &to): (usize, &usize)| {
+            ([-(records[to].0 as i8), -(place as i8), 0], to as u16)
+        };
+        let links: Vec<([i8; SIDES], u16)> = next.iter().enumerate().map(link).collect();
+        record([*named, 0, 0], &links)
+    };
+    records.iter().map(drawn_record).collect()
+}
+
+/// Judges a drawn converter whose rules are these formulas. The number of the kernel's state is
+/// its label word, so that no proposition holds at the start.
 fn drawn_waits(
     records: &[(u8, Vec<usize>)],
     formulas: &[Formula],
     rules: &[u8],
 ) -> Result<Vec<u32>, u8> {
-    waits(&free_design(formulas, rules), &drawn(records))
+    let sides = free_sides(from_fn(|number| number as u16));
+    let design = Design { sides, formulas: formulas.to_vec(), rules: rules.to_vec() };
+    waits(&design, &drawn(records))
+}
+
+/// Number 2 is A(true U 0).
+const TRUE_UNTIL_0: [Formula; 3] = [Formula::True, Formula::Proposition(0), Formula::Until(0, 1)];
+
+/// A chain: each record leads to the next, and 0 holds at the last alone, which stays.
+fn chain(records: usize) -> Vec<(u8, Vec<usize>)> {
+    let last = records - 1;
+    (0..records).map(|at| (u8::from(at == last), vec![(at + 1).min(last)])).collect()
 }
 
 #[test]
@@ -48,14 +78,52 @@ fn chains() {
 #[test]
 fn a_braid() {
     // Each record leads to the next eight, and the slowest path goes through all.
-    assert_eq!(drawn_waits(&braid(65_536, 8), &TRUE_UNTIL_0, &[2]), Ok(vec![65_535]));
+    let last = 65_535;
+    let next = |at: usize| (1..=8).map(|more| (at + more).min(last)).collect();
+    let braid: Vec<_> = (0..=last).map(|at| (u8::from(at == last), next(at))).collect();
+    assert_eq!(drawn_waits(&braid, &TRUE_UNTIL_0, &[2]), Ok(vec![65_535]));
 }
 
 #[test]
-fn rows_of_small_structures() {
-    for (records, ticks) in small_structures() {
-        let expected = ticks.map(|ticks| vec![ticks]).ok_or(15);
-        assert_eq!(drawn_waits(&records, &TRUE_UNTIL_0, &[2]), expected, "{records:?}");
+fn small_structures() {
+    // The kernel's states and the next records; 0 holds in states 1 and 3.
+    let rows: [(&[(u8, &[usize])], u32); 15] = [
+        (&[(0, &[1]), (1, &[1])], 1),
+        (&[(0, &[1]), (0, &[2]), (1, &[2])], 2),
+        // Back to the start, or where it doesn't hold any more, once it has held.
+        (&[(0, &[1]), (1, &[0])], 1),
+        (&[(0, &[1]), (1, &[2]), (0, &[2])], 1),
+        // Two transitions to one record.
+        (&[(0, &[1, 1]), (1, &[1])], 1),
+        (&[(0, &[1, 1]), (2, &[2, 2]), (3, &[0])], 2),
+        // Two ends, and two ways to one end.
+        (&[(0, &[1, 2]), (1, &[1]), (3, &[2])], 1),
+        (&[(0, &[1, 2]), (0, &[3]), (2, &[3]), (1, &[3])], 2),
+        // A short way and a long one, whichever stands first.
+        (&[(0, &[1, 3]), (0, &[2]), (0, &[3]), (1, &[3])], 3),
+        (&[(0, &[3, 1]), (0, &[2]), (0, &[3]), (1, &[3])], 3),
+        (&[(0, &[1, 3]), (1, &[1]), (1, &[2]), (0, &[2])], 2),
+        // Record 2 comes after one tick and again after two; below, record 3 after two to four.
+        (&[(0, &[1, 2]), (0, &[2]), (0, &[3]), (1, &[3])], 3),
+        (&[(0, &[2, 1, 4]), (0, &[4]), (0, &[1, 3]), (1, &[3]), (0, &[3])], 4),
+        // Records that nothing leads to: for ever without 0, and longer on the way to it.
+        (&[(0, &[1]), (1, &[1]), (0, &[2])], 1),
+        (&[(0, &[2]), (0, &[0]), (1, &[2]), (0, &[1])], 1),
+    ];
+    for (records, ticks) in rows {
+        let records: Vec<_> = records.iter().map(|(named, next)| (*named, next.to_vec())).collect();
+        assert_eq!(drawn_waits(&records, &TRUE_UNTIL_0, &[2]), Ok(vec![ticks]), "{records:?}");
+    }
+    // Where a path stays without 0, the rule fails.
+    let rows: [&[(u8, &[usize])]; 4] = [
+        &[(0, &[0, 1]), (1, &[1])],
+        &[(0, &[1, 2]), (1, &[1]), (0, &[2])],
+        &[(0, &[1, 2]), (2, &[0]), (1, &[1])],
+        &[(0, &[1, 3]), (0, &[2]), (0, &[1]), (1, &[3])],
+    ];
+    for records in rows {
+        let records: Vec<_> = records.iter().map(|(named, next)| (*named, next.to_vec())).collect();
+        assert_eq!(drawn_waits(&records, &TRUE_UNTIL_0, &[2]), Err(15), "{records:?}");
     }
 }
 
@@ -66,8 +134,7 @@ fn at_every_state_of_a_row() {
     let row = Model::new(vec![[0; SIDES]; 4], next);
     let all: &[usize] = &[0, 1, 2, 3];
     // The first part's states, the second part's, and how long each state waits.
-    type Waits = [Option<usize>; 4];
-    let rows: [(&[usize], &[usize], Waits); 7] = [
+    let rows: [(&[usize], &[usize], [Option<usize>; 4]); 7] = [
         (all, &[3], [None, None, Some(1), Some(0)]),
         (all, &[2], [None, None, Some(0), None]),
         (all, &[1], [Some(1), Some(0), None, None]),
@@ -246,6 +313,16 @@ fn lengths_of_the_list() {
     assert_eq!(list, [0, OTHER, numbers(3)[2]]);
 }
 
+/// Every set of some numbers, in their order.
+fn subsets(numbers: &[u8]) -> Vec<Vec<u8>> {
+    let mut sets = vec![vec![]];
+    for &number in numbers {
+        let with: Vec<Vec<u8>> = sets.iter().map(|set| [&set[..], &[number]].concat()).collect();
+        sets.extend(with);
+    }
+    sets
+}
+
 #[test]
 fn order_beside_other_faults() {
     // Whatever is wrong, the lowest number answers, and the list is as it was.
@@ -260,7 +337,17 @@ fn order_beside_other_faults() {
         let wrong = |number: u8| set.contains(&number);
         let rules = vec![2, if wrong(15) { 4 } else { 2 }, 0];
         let design = handshake(formulas.clone(), rules);
-        let converter = figure_five_with_faults(wrong);
+        let mut records = figure_five();
+        if wrong(14) {
+            records[0].links.pop();
+        }
+        let mut converter = converter_bytes(&records);
+        if wrong(11) {
+            converter[52 + 7] = 1;
+        }
+        if wrong(10) {
+            converter.pop();
+        }
         let work = 48 - usize::from(wrong(13));
         let list = 3 - usize::from(wrong(12));
         let first = set.first().copied();
@@ -469,6 +556,25 @@ fn random_designs() {
     assert_eq!(followed, waits.iter().sum::<usize>(), "every path was followed");
     assert!(waits[..4].iter().chain(&others).all(|&rules| rules > 200), "{waits:?} {others:?}");
     assert!(records.iter().all(|&times| times > 100_000), "{records:?}");
+}
+
+/// A converter for free sides that mostly leads on, to one of the next few records.
+fn leading_far(random: &mut Random, records: usize) -> Vec<(u8, Vec<usize>)> {
+    let (reach, back) = (random.from_to(1, 4), random.from_to(5, 200));
+    let next = |random: &mut Random, at: usize| {
+        if random.once_in(back) {
+            random.below(records)
+        } else {
+            (at + random.from_to(1, reach)).min(records - 1)
+        }
+    };
+    let most = random.from_to(1, 4);
+    let mut record = |at: usize| {
+        let named = if at == 0 { 0 } else { random.below(8) as u8 };
+        let count = random.from_to(1, most);
+        (named, (0..count).map(|_| next(random, at)).collect())
+    };
+    (0..records).map(&mut record).collect()
 }
 
 #[test]

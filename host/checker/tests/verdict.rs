@@ -2,6 +2,7 @@
 //! converters, sound and damaged, against the judge.
 
 mod drawn;
+#[allow(dead_code)]
 mod kept;
 mod samples;
 

@@ -6,7 +6,7 @@
 use std::fs;
 use std::path::Path;
 
-use gorzhani::{Refused, Verdict, BLOCK, BLOCK_RECORDS, CELL, MOST_RULES, RECORD};
+use gorzhani::{Refused, BLOCK, BLOCK_RECORDS, CELL, MOST_RULES, RECORD};
 
 #[test]
 fn examples() {
@@ -34,7 +34,6 @@ fn examples() {
         let (mut work, mut waits) = (vec![0; CELL * records], [0; MOST_RULES]);
         let judged = gorzhani::judge(&design, shown, &mut work, &mut waits);
         assert_eq!(judged, Ok(()), "{path:?}");
-        assert_eq!(gorzhani::verdict(&design, shown, &mut work), Verdict::Yes, "{path:?}");
         found += 1;
     }
     assert!(found > 0 && none > 0);

@@ -11,7 +11,7 @@ use std::time::Duration;
 
 use checker::bytes::{idle_side, read_blocks, Formula};
 use checker::generate::{any_bytes, damage, design, ruled_design, Random, Shape};
-use gorzhani::{Refused, Verdict, BLOCK, CELL, FIVE_BLOCKS, FOUR_BLOCKS, MOST_RULES, RECORD};
+use gorzhani::{Refused, BLOCK, CELL, FIVE_BLOCKS, FOUR_BLOCKS, MOST_RULES, RECORD};
 
 /// What the program writes when it is handed these pieces, one after the other.
 fn written(pieces: &[&[u8]]) -> Vec<u8> {
@@ -61,7 +61,6 @@ fn convert_agrees(design: &[u8]) -> u8 {
         converter.truncate(RECORD * records);
         let (mut work, mut waits) = (vec![0; CELL * records], [0; MOST_RULES]);
         assert_eq!(checker::judge(design, &converter, &mut work, &mut waits), Ok(()));
-        assert_eq!(gorzhani::verdict(design, &converter, &mut work), Verdict::Yes);
     }
     number
 }

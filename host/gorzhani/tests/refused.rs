@@ -8,7 +8,7 @@ use std::error::Error;
 use checker::{bytes, ranges, refusal, rules, waits};
 use common::header;
 use gorzhani::{
-    Refused, Verdict, BLOCK, BLOCK_RECORDS, CELL, ENTRY, FIVE_BLOCKS, FOUR_BLOCKS, LAST_NAME, MOST,
+    Refused, BLOCK, BLOCK_RECORDS, CELL, ENTRY, FIVE_BLOCKS, FOUR_BLOCKS, LAST_NAME, MOST,
     MOST_BRACKETS, MOST_FORMULAS, MOST_RULES, MOST_WAITS, NO_GREATEST, NO_WAIT, RECORD,
     RULE_BLOCKS,
 };
@@ -77,11 +77,6 @@ fn a_refusal_is_an_error() {
     let error = search().expect_err("the design is too short");
     assert_eq!(error.downcast_ref(), Some(&Refused::LENGTH));
     assert!(error.to_string().starts_with("refused 1: "));
-}
-
-#[test]
-fn a_verdict_has_its_refusal() {
-    assert_eq!(gorzhani::verdict(&[0; 2_047], &[], &mut []), Verdict::Refused(Refused::LENGTH));
 }
 
 /// The constants by their names, each beside the second checker's.

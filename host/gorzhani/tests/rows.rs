@@ -9,8 +9,8 @@ use checker::bytes::{converter_bytes, idle_side, positions, Design, Formula, Rec
 use common::{found, judge_agrees, search_agrees, tick_agrees};
 use gorzhani::{Runner, BLOCK, CELL, FIVE_BLOCKS, FOUR_BLOCKS, RECORD};
 use samples::{
-    design, enabling, events_at_four_choices, events_of_three_delayed, figure_five, four_choices,
-    handshake, leading_on, lock_and_menu, lock_and_menu_converter, mistaken_labels,
+    design, events_at_four_choices, events_of_three_delayed, figure_five, four_choices, handshake,
+    leading_on, lock_and_menu, lock_and_menu_converter, mistaken_labels,
     next_sixteen_next_seventeen, one_record, record, reordered, ruled_handshake, state,
     three_delayed, thumbnails, ticking_in_turn, two_inputs, viewer, viewer_once, wait_leading_to,
     ORDERS,
@@ -91,7 +91,12 @@ fn two_inputs_of_which_one_serves() {
     formulas.push(Formula::Or(2, 3));
     let either = two_inputs(formulas, vec![4]);
     assert_eq!((positions(&either), searched(&either)), (24, 0));
-    assert_eq!(judged(&either, &enabling(&[([0, -1], 1), ([0, -2], 2)])), 15);
+    let both = [
+        record([0, 0], &[([0, -1], 1), ([0, -2], 2)]),
+        record([0, 1], &[([0, 0], 1)]),
+        record([0, 2], &[([0, 0], 2)]),
+    ];
+    assert_eq!(judged(&either, &both), 15);
     assert_eq!(searched(&two_inputs(next_sixteen_next_seventeen(), vec![2, 3])), 16);
 }
 

@@ -31,7 +31,6 @@ extern "C" {
     fn gorzhani_positions();
     fn gorzhani_search();
     fn gorzhani_judge();
-    fn gorzhani_verdict();
     fn gorzhani_write();
     fn gorzhani_read();
     fn gorzhani_tick();
@@ -61,8 +60,7 @@ impl Call {
         Call { function, stack: vec![PATTERN; PLACES], answers: Answers::default() }
     }
 
-    /// Calls the function with these arguments: up to six in registers, one or two more on the
-    /// stack.
+    /// Calls the function with these arguments: up to six in registers, two more on the stack.
     ///
     /// # Safety
     /// They are arguments as the C header asks for.
@@ -71,15 +69,13 @@ impl Call {
         let mut registers = [0; 6];
         registers[..first.len()].copy_from_slice(first);
         let mut top = self.stack.as_mut_ptr().add(PLACES);
-        let on_the_stack = match *behind {
-            [] => None,
-            [seventh] => Some([seventh as u64, 0]),
-            [seventh, eighth] => Some([seventh as u64, eighth as u64]),
-            _ => unreachable!("no call has over eight arguments"),
-        };
-        if let Some(arguments) = on_the_stack {
-            top = top.sub(1);
-            top.write(Place(arguments));
+        match *behind {
+            [] => {}
+            [seventh, eighth] => {
+                top = top.sub(1);
+                top.write(Place([seventh as u64, eighth as u64]));
+            }
+            _ => unreachable!("no call has seven arguments or over eight"),
         }
         let answer: i32;
         asm!(
@@ -128,7 +124,6 @@ struct Calls {
     positions: Call,
     search: Call,
     judge: Call,
-    verdict: Call,
     write: Call,
     read: Call,
     tick: Call,
@@ -142,7 +137,6 @@ impl Calls {
             positions: Call::new(gorzhani_positions),
             search: Call::new(gorzhani_search),
             judge: Call::new(gorzhani_judge),
-            verdict: Call::new(gorzhani_verdict),
             write: Call::new(gorzhani_write),
             read: Call::new(gorzhani_read),
             tick: Call::new(gorzhani_tick),
@@ -166,8 +160,7 @@ impl Calls {
         Some(table)
     }
 
-    /// Judges a converter with a list of so many waits lent, asks for the verdict alone, writes the
-    /// converter and reads it back.
+    /// Judges a converter with a list of so many waits lent, writes it and reads it back.
     fn converter(&mut self, design: &[u8], converter: &[u8], lent: usize) {
         let records = converter.len() / RECORD;
         let (mut work, mut waits) = (vec![0; CELL * records], vec![0_u32; lent]);
@@ -175,8 +168,7 @@ impl Calls {
         let ([design_at, design_length], [at, length]) = (read(design), read(converter));
         let ([work_at, work_length], [waits_at, waits_length]) =
             (written(&mut work), written(&mut waits));
-        let ([file_at, file_length], mut rule) = (written(&mut file), [0_u8]);
-        let [rule_at, _] = written(&mut rule);
+        let [file_at, file_length] = written(&mut file);
         // SAFETY: as above.
         unsafe {
             self.judge.done([
@@ -188,15 +180,6 @@ impl Calls {
                 work_length,
                 waits_at,
                 waits_length,
-            ]);
-            self.verdict.done([
-                design_at,
-                design_length,
-                at,
-                length,
-                work_at,
-                work_length,
-                rule_at,
             ]);
             self.write.with([at, length, file_at, file_length]);
         }
@@ -318,8 +301,6 @@ fn no_call_takes_more_than_the_header_says() {
     calls.search.took(&[0, 1, 2, 3, 4, 5, 6, 7, 8, 9, 12, 16], "GORZHANI_SEARCH_STACK");
     let judged = [0, 1, 2, 3, 4, 5, 6, 7, 8, 10, 11, 12, 14, 15];
     calls.judge.took(&judged, "GORZHANI_JUDGE_STACK");
-    let blamed = [0, 1, 2, 3, 4, 5, 6, 7, 8, 10, 11, 14, 15];
-    calls.verdict.took(&blamed, "GORZHANI_VERDICT_STACK");
     calls.write.took(&[0, 10, 11], "GORZHANI_WRITE_STACK");
     calls.read.took(&[0, 1, 2, 3, 4, 8, 11], "GORZHANI_READ_STACK");
     calls.tick.took(&[0, 10, 11, 17], "GORZHANI_TICK_STACK");

@@ -10,7 +10,7 @@ mod samples;
 use checker::bytes::{converter_bytes, idle_side};
 use checker::generate::{any_converter, Random};
 use common::{about, judge_agrees, mixed_design, search_agrees, size, Answers, Lent};
-use gorzhani::{Refused, Verdict, CELL, FIVE_BLOCKS, FOUR_BLOCKS, MOST_RULES, RECORD};
+use gorzhani::{Refused, CELL, FIVE_BLOCKS, FOUR_BLOCKS, MOST_RULES, RECORD};
 use kept::kept;
 
 #[test]
@@ -41,13 +41,6 @@ fn searched(design: &[u8], table: usize, work: usize) -> (Result<usize, Refused>
     let (mut table, mut work) = (Lent::new(table), Lent::new(work));
     let answer = gorzhani::search(design, table.part_mut(), work.part_mut());
     (answer, [table, work].map(|lent| lent.part().to_vec()))
-}
-
-/// The verdict alone, and the lent bytes after it.
-fn verdict(design: &[u8], converter: &[u8], work: usize) -> (Verdict, Vec<u8>) {
-    let mut work = Lent::new(work);
-    let verdict = gorzhani::verdict(design, converter, work.part_mut());
-    (verdict, work.part().to_vec())
 }
 
 /// What the judge answers, and the lent bytes and numbers after it.
@@ -81,8 +74,6 @@ fn four_blocks_and_five_say_the_same() {
         let work = about(&mut random, CELL * (converter.len() / RECORD));
         let (answer, lent, waits) = judged(&four, &converter, work);
         assert!((answer, lent, waits) == judged(&five, &converter, work), "{made:?}");
-        let [by_four, by_five] = [&four, &five].map(|bytes| verdict(bytes, &converter, work));
-        assert!(by_four == by_five, "{made:?}");
         answers.count(answer.err().map_or(0, |refused| refused.0));
     }
     answers.are(&[0, 9, 10, 11, 12, 13, 14, 15, 16], 50);

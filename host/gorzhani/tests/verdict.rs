@@ -270,6 +270,11 @@ fn every_length_of_the_work() {
     }
 }
 
+#[test]
+fn a_verdict_has_its_refusal() {
+    assert_eq!(gorzhani::verdict(&[0; 2_047], &[], &mut []), Verdict::Refused(Refused::LENGTH));
+}
+
 /// The kind and the proposition of a literal's formula.
 type Literal = [u8; 2];
 

@@ -6,18 +6,17 @@ mod common;
 mod samples;
 
 use checker::bytes::{
-    converter_bytes, read_converter_memory, seal, Design, Formula, Record, SIDES,
+    converter_bytes, positions, read_converter_memory, seal, Design, Formula, Record, SIDES,
 };
-use checker::generate::{any_bytes, damage, Random};
+use checker::generate::{
+    any_bytes, any_design, damage, damaged_converter, design, matched_converter,
+    nearly_matched_converter, progress_design, ruled_design, Random, Shape,
+};
 use checker::judge::failing_rules;
-use common::graphs::{self, orders, sides};
-use common::pairs::{drawn, mostly_sound, searched};
+use common::graphs::{self, graph, holding, sides, waiting};
 use common::{about, found, rule_count, waits_agree, Answers};
-use gorzhani::{CELL, MOST, MOST_RULES, NO_WAIT, RECORD};
-use samples::{
-    figure_five, figure_five_with_faults, handshake, record, ruled_handshake, subsets, viewer_once,
-    with_faults,
-};
+use gorzhani::{CELL, MOST, MOST_FORMULAS, MOST_RULES, NO_WAIT, RECORD};
+use samples::{figure_five, handshake, record, ruled_handshake, state, viewer_once, with_faults};
 
 /// How many judgements there were, what they answered, and the waits of those that are yes.
 #[derive(Default)]
@@ -73,6 +72,19 @@ impl Seen {
     }
 }
 
+/// Puts some untils behind the formulas, over any of them, half of them with "true" before what is
+/// to come.
+fn with_untils(random: &mut Random, formulas: &mut Vec<Formula>) {
+    formulas.truncate(MOST_FORMULAS / 2);
+    formulas.push(Formula::True);
+    let always_true = formulas.len() - 1;
+    for _ in 0..random.from_to(1, MOST_FORMULAS / 2 - 1) {
+        let (a, b) = (random.below(formulas.len()), random.below(formulas.len()));
+        let before = if random.once_in(2) { always_true } else { a };
+        formulas.push(Formula::Until(before, b));
+    }
+}
+
 /// Gives a design rules that hold under a converter which is matched to it, most of them untils
 /// and, where there are any, untils that aren't met at the start; at times one that may fail.
 fn with_kept_rules(random: &mut Random, design: &mut Design, converter: &[Record]) {
@@ -103,9 +115,60 @@ fn with_kept_rules(random: &mut Random, design: &mut Design, converter: &[Record
     design.rules = (0..random.from_to(1, most)).map(|_| rule(random)).collect();
 }
 
-/// A design with a converter that is matched to it, and with rules that hold under it, mostly.
-fn kept(random: &mut Random, round: usize) -> (Design, Vec<Record>) {
-    let (mut made, converter) = drawn(random, round);
+/// A design of any sort and a converter matched to it, under which its rules hold, mostly.
+fn matched(random: &mut Random, round: usize) -> (Design, Vec<Record>) {
+    let mut made = match round % 16 {
+        0 => design(random, &Shape::FULL),
+        1..=5 => design(random, &Shape::SMALL),
+        _ => any_design(random),
+    };
+    with_untils(random, &mut made.formulas);
+    let spare = random.below(12);
+    let converter = matched_converter(random, &made, spare);
+    with_kept_rules(random, &mut made, &converter);
+    (made, converter)
+}
+
+/// A design, of whose rules some are untils, and the converter that the library finds for it, if it
+/// does.
+fn searched(random: &mut Random, round: usize) -> Option<(Design, Vec<Record>)> {
+    let mut made = match round % 3 {
+        0 => progress_design(random, &Shape::TINY),
+        1 => ruled_design(random, &Shape::TINY),
+        _ => ruled_design(random, &Shape::SMALL),
+    };
+    if random.once_in(2) {
+        made.rules.clear();
+    }
+    let at = made.formulas.len();
+    if at + 2 > MOST_FORMULAS {
+        return None;
+    }
+    made.formulas.extend([Formula::True, Formula::Until(at, random.below(at))]);
+    made.rules.insert(random.below(made.rules.len() + 1), at as u8 + 1);
+    if positions(&made) > 1 << 10 {
+        return None;
+    }
+    let table = found(&made.to_bytes())?;
+    Some((made, read_converter_memory(&table).expect("a converter found is right in itself")))
+}
+
+/// Places from each of which one to three lead on, none of them far, the last to itself.
+fn leading_on(random: &mut Random, places: usize) -> Vec<Vec<usize>> {
+    let far = random.from_to(1, 6);
+    let ahead = |random: &mut Random, at: usize| (at + random.from_to(1, far)).min(places - 1);
+    (0..places).map(|at| (0..random.from_to(1, 3)).map(|_| ahead(random, at)).collect()).collect()
+}
+
+/// A converter in the shape of a graph, and rules that hold under it, mostly.
+fn in_no_order(random: &mut Random, round: usize) -> (Design, Vec<Record>) {
+    let places = random.from_to(2, 60);
+    let next = if round % 3 == 0 { graph(random, places) } else { leading_on(random, places) };
+    let mut held = holding(random, places);
+    held[places - 1][0] = 1;
+    let mut made = Design { sides: sides(), formulas: waiting(random), rules: vec![] };
+    with_untils(random, &mut made.formulas);
+    let converter = graphs::converter(random, &next, &held);
     with_kept_rules(random, &mut made, &converter);
     (made, converter)
 }
@@ -123,7 +186,8 @@ fn waits_agree_with_the_second_checker() {
                 Some(searched) => searched,
                 None => continue,
             },
-            _ => kept(&mut random, round),
+            1 => matched(&mut random, round / 3),
+            _ => in_no_order(&mut random, round / 3),
         };
         let bytes = any_bytes(&mut random, &made);
         let spare = random.below(3);
@@ -148,12 +212,19 @@ fn damaged_and_short() {
     let mut random = Random::new(1_502);
     let mut seen = Seen::default();
     for round in 0..24_000 {
-        let (made, records) = kept(&mut random, round);
+        let (made, records) = match round % 2 {
+            0 => matched(&mut random, round / 2),
+            _ => in_no_order(&mut random, round / 2),
+        };
         let mut bytes = any_bytes(&mut random, &made);
         if random.once_in(3) {
             damage(&mut random, &mut bytes);
         }
-        let converter = mostly_sound(&mut random, &made, &records, 6);
+        let converter = match random.below(6) {
+            0 => damaged_converter(&mut random, &records),
+            1 => converter_bytes(&nearly_matched_converter(&mut random, &made, 3)),
+            _ => converter_bytes(&records),
+        };
         let work = about(&mut random, CELL * (converter.len() / RECORD));
         let waits = random.below(rule_count(&bytes) + 3);
         seen.judge(&bytes, &converter, [work, waits]);
@@ -169,8 +240,15 @@ fn every_length_of_the_list() {
     let mut random = Random::new(1_503);
     let mut seen = Seen::default();
     for round in 0..1_500 {
-        let (made, records) = kept(&mut random, round);
-        let converter = mostly_sound(&mut random, &made, &records, 4);
+        let (made, records) = match round % 2 {
+            0 => matched(&mut random, round / 2),
+            _ => in_no_order(&mut random, round / 2),
+        };
+        let converter = match random.below(4) {
+            0 => damaged_converter(&mut random, &records),
+            1 => converter_bytes(&nearly_matched_converter(&mut random, &made, 3)),
+            _ => converter_bytes(&records),
+        };
         let mut bytes = any_bytes(&mut random, &made);
         if random.once_in(8) {
             damage(&mut random, &mut bytes);
@@ -201,12 +279,28 @@ fn every_length_of_the_list() {
 /// H with the four rules and F, with every set of faults: the lowest number is answered.
 #[test]
 fn order_of_the_refusals() {
+    let tried = [1, 2, 3, 4, 5, 6, 7, 8, 10, 11, 12, 13, 14, 15];
     let mut answers = Answers::default();
-    for wrong in subsets(&[1, 2, 3, 4, 5, 6, 7, 8, 10, 11, 12, 13, 14, 15]) {
+    for bits in 0..1 << tried.len() {
+        let wrong: Vec<u8> =
+            (0..tried.len()).filter(|at| bits >> at & 1 == 1).map(|at| tried[at]).collect();
         let has = |number: u8| wrong.contains(&number);
+        let mut records = figure_five();
+        if has(14) {
+            // Record 0 doesn't let s0 wait.
+            records[0].links.truncate(1);
+        }
+        let mut converter = converter_bytes(&records);
+        if has(11) {
+            // The zero in a used place of the last record.
+            converter[2 * RECORD + 7] = 1;
+        }
+        if has(10) {
+            converter.push(0);
+        }
         // As printed, the fourth rule fails under F.
-        let bytes = with_faults(ruled_handshake(has(15)).to_bytes(), 1, has);
-        let converter = figure_five_with_faults(has);
+        let design = ruled_handshake(has(15)).to_bytes();
+        let bytes = with_faults(design, 1, has);
         let (work, waits) = (CELL * 3 - usize::from(has(13)), 4 - usize::from(has(12)));
         let answer = waits_agree(&bytes, &converter, work, waits);
         let expected = wrong.first().map_or(Ok(vec![NO_WAIT; 4]), |&first| Err(first));
@@ -222,9 +316,11 @@ fn waits(design: &Design, converter: &[Record]) -> Result<Vec<u32>, u8> {
     waits_agree(&design.to_bytes(), &converter_bytes(converter), work, rules)
 }
 
-/// A chain of records in this order, at whose end 0 holds. Four rules: what is reached at the start,
-/// then 0 by two untils, and one that isn't an until.
+/// A converter that goes through all its records and stays at the last, where 0 holds; the next
+/// record of each is told by the order in which they are passed. Four rules: what is reached at the
+/// start, then 0 by two untils, and one that isn't an until.
 fn chain(order: &[usize]) -> (Design, Vec<Record>) {
+    let walking = vec![state(&[], &[(0, 0), (1, 1)]), state(&[0], &[(0, 1)])];
     let formulas = vec![
         Formula::True,
         Formula::Proposition(0),
@@ -234,7 +330,14 @@ fn chain(order: &[usize]) -> (Design, Vec<Record>) {
         Formula::Until(2, 1),
         Formula::Always(4),
     ];
-    (Design { sides: sides(), formulas, rules: vec![3, 4, 5, 6] }, graphs::chain(order))
+    let mut records = vec![record([0], &[]); order.len()];
+    let last = order.len() - 1;
+    for (at, &own) in order.iter().enumerate() {
+        let event = if at + 1 == last { -1 } else { 0 };
+        let next = order[last.min(at + 1)] as u16;
+        records[own] = record([u8::from(at == last)], &[([event], next)]);
+    }
+    (samples::design([walking], formulas, vec![3, 4, 5, 6]), records)
 }
 
 /// The chain of 100 records, byte by byte.
@@ -281,7 +384,12 @@ fn a_chain_of_a_hundred_records() {
 fn the_longest_wait() {
     let mut random = Random::new(1_504);
     for records in [2, 3, 4, 1_000, MOST] {
-        for order in orders(&mut random, records) {
+        let ahead: Vec<usize> = (0..records).collect();
+        let mut back = ahead.clone();
+        back[1..].reverse();
+        let mut mixed = ahead.clone();
+        random.shuffle(&mut mixed[1..]);
+        for order in [ahead, back, mixed] {
             let (design, converter) = chain(&order);
             let longest = records as u32 - 1;
             assert_eq!(waits(&design, &converter), Ok(vec![0, longest, longest, NO_WAIT]));

@@ -2,9 +2,6 @@
 //! Their third side is one ticking state without labels, and their converters have zeros
 //! for it.
 
-// Each test file uses some of these.
-#![allow(dead_code)]
-
 use std::str::FromStr;
 
 use checker::bytes::{Design, Formula, Link, Record, State, Transition, SIDES};

@@ -486,7 +486,11 @@ pub fn judged_waits(
     let (mut work, mut waits) = (pattern(work_length), numbers(list_length));
     let answer = checker::judge(design, converter, &mut work, &mut waits);
     let records = converter.len() / 52;
-    assert_eq!(work, work_after(answer, work_length, records), "work after {answer:?}");
+    let mut expected = pattern(work_length);
+    if matches!(answer, Ok(()) | Err(14 | 15)) {
+        expected[..16 * records].fill(0);
+    }
+    assert_eq!(work, expected, "work after {answer:?}");
     let rules: Vec<Formula> = match answer {
         Ok(()) => {
             let Design { formulas, rules, .. } = read_design(design)?;

@@ -24,11 +24,6 @@ pub fn sides() -> [Vec<State>; SIDES] {
 pub fn converter(random: &mut Random, next: &[Vec<usize>], holding: &[[u8; SIDES]]) -> Vec<Record> {
     let mut number: Vec<usize> = (0..next.len()).collect();
     random.shuffle(&mut number[1..]);
-    numbered(&number, next, holding)
-}
-
-/// The same, where each place is the record with this number.
-fn numbered(number: &[usize], next: &[Vec<usize>], holding: &[[u8; SIDES]]) -> Vec<Record> {
     let mut records = vec![Record { states: [0; SIDES], links: vec![] }; next.len()];
     for (place, targets) in next.iter().enumerate() {
         let link = |(at, &to): (usize, &usize)| {
@@ -46,10 +41,15 @@ fn numbered(number: &[usize], next: &[Vec<usize>], holding: &[[u8; SIDES]]) -> V
 /// last, where alone 0 holds.
 pub fn chain(order: &[usize]) -> Vec<Record> {
     let last = order.len() - 1;
-    let next: Vec<Vec<usize>> = (0..=last).map(|at| vec![last.min(at + 1)]).collect();
-    let mut holding = vec![[0; SIDES]; order.len()];
-    holding[last][0] = 1;
-    numbered(order, &next, &holding)
+    let mut records = vec![Record { states: [0; SIDES], links: vec![] }; order.len()];
+    for (at, &own) in order.iter().enumerate() {
+        let to = last.min(at + 1);
+        // The kernel's event 4 leads to its second state, where 0 holds.
+        let event = if to == last { -4 } else { 0 };
+        let link = Link { events: [event, 0, 0], next: order[to] as u16 };
+        records[own] = Record { states: [u8::from(at == last), 0, 0], links: vec![link] };
+    }
+    records
 }
 
 /// So many records in the order of their numbers; in the opposite one, behind record 0; and in none.

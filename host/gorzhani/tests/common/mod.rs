@@ -257,15 +257,10 @@ pub fn rule_count(bytes: &[u8]) -> usize {
     read_design(bytes).map_or(MOST_RULES, |design| design.rules.len())
 }
 
-/// Judges by both with lent work of this length and a list of waits that is long enough. The
-/// verdict alone is the same.
+/// Judges by both with lent work of this length and a list of waits that is long enough.
 pub fn judge_agrees(bytes: &[u8], converter: &[u8], work_length: usize) -> u8 {
     let spare = (converter.len() + work_length) % 4;
-    let judged = waits_agree(bytes, converter, work_length, rule_count(bytes) + spare);
-    let answer = judged.err().unwrap_or(0);
-    let verdict = verdict_agrees(bytes, converter, work_length);
-    assert_eq!(verdict_number(verdict), answer, "{:?} {converter:?}", read_design(bytes));
-    answer
+    waits_agree(bytes, converter, work_length, rule_count(bytes) + spare).err().unwrap_or(0)
 }
 
 /// The number of a verdict; 0 is yes.
@@ -298,6 +293,30 @@ pub fn verdict_agrees(bytes: &[u8], converter: &[u8], work_length: usize) -> Ver
     verdict
 }
 
+/// Asks both for the verdict alone, with lent work of this length. The library's judge, with a list
+/// of waits that is long enough, says the same. The number.
+pub fn quick_agrees(bytes: &[u8], converter: &[u8], work_length: usize) -> u8 {
+    let verdict = verdict_agrees(bytes, converter, work_length);
+    let (mut work, mut waits) = (vec![0xA5; work_length], [7; MOST_RULES]);
+    let judged = number(gorzhani::judge(bytes, converter, &mut work, &mut waits));
+    assert_eq!(verdict_number(verdict), judged, "{:?} {converter:?}", read_design(bytes));
+    judged
+}
+
+/// Searches by both a sound design of at most 65,536 positions. The verdict on what each finds is
+/// yes. The library's answer.
+pub fn found_well(bytes: &[u8]) -> u8 {
+    let Some(first) = found(bytes) else { return 16 };
+    let size = size(bytes, usize::MAX);
+    let (mut table, mut work) = (vec![0; RECORD * size], vec![0; CELL * size]);
+    let records = checker::search(bytes, &mut table, &mut work).expect("the other finds one too");
+    for converter in [&first[..], &table[..RECORD * records]] {
+        let work = CELL * (converter.len() / RECORD);
+        assert_eq!(quick_agrees(bytes, converter, work), 0, "{:?}", read_design(bytes));
+    }
+    0
+}
+
 /// Whether work is as it has to be after this answer: zero for each record after a yes, 14 and 15,
 /// and else as it was.
 pub fn judged_work(work: &Lent, number: u8, converter: &[u8]) -> bool {
@@ -324,7 +343,10 @@ pub fn waits_agree(
     let other = checker::judge(bytes, converter, &mut vec![0; work_length], &mut other_waits);
     assert!(design.untouched() && lent.untouched());
     assert_eq!(number(answer), other.err().unwrap_or(0), "{:?} {converter:?}", read_design(bytes));
-    assert!(judged_work(&work, number(answer), converter), "{answer:?}");
+    match number(answer) {
+        0 | 14 | 15 => assert!(work.holds(&vec![0; CELL * (converter.len() / RECORD)])),
+        _ => assert!(work.untouched()),
+    }
     if let Err(Refused(number)) = answer {
         assert!(waits.holds(&[]), "{number} {:?}", read_design(bytes));
         return Err(number);
