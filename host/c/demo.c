@@ -1,6 +1,6 @@
 /* From a design to ticks, over the C header alone: the handshake pair of the README's example with no rules, then three sides of one state each. Then rules
- * over labels, each of which belongs to one side, the handshake pair with a wait that is known by range, its rules as people type them, and the paper's
- * converter for it. Prints what each call answered, how long the rules of the handshake pair wait, and which rule fails. */
+ * over labels, each of which belongs to one side, the handshake pair with a wait that is known by range, and its rules as people type them. Prints what each
+ * call answered, and how long the rules of the handshake pair wait. */
 #include <stdio.h>
 #include <stdlib.h>
 #include <string.h>
@@ -146,16 +146,12 @@ static int32_t type(const char *text) {
     return gorzhani_rules((const uint8_t *)text, strlen(text), design + design_len - GORZHANI_RULE_BLOCKS_BYTES, GORZHANI_RULE_BLOCKS_BYTES);
 }
 
-/* The paper's rules for the handshake pair. The fourth is printed otherwise than its words say. */
-#define THREE_RULES \
-    "AG (p0 & p18 -> AX (p1 | !p19))\n" \
-    "AG (p19 & p1 -> AX (p0 | !p18))\n" \
-    "AG (p1 & p18 -> AX (p19 | !p0))\n"
-#define FOURTH_RULE "AG (p0 & p19 -> AX (!p1 | p18))\n"
-#define FOURTH_AS_PRINTED "AG (p0 & p19 -> AX (!p1 | !p18))\n"
-
 /* The handshake pair with the rule that `waits` has by its bytes, then with its four rules, then texts that are refused. */
 static void typed(void) {
+    static const char four_rules[] = "AG (p0 & p18 -> AX (p1 | !p19))\n"
+                                     "AG (p19 & p1 -> AX (p0 | !p18))\n"
+                                     "AG (p1 & p18 -> AX (p19 | !p0))\n"
+                                     "AG (p0 & p19 -> AX (!p1 | p18))\n";
     static uint8_t by_bytes[GORZHANI_FIVE_BLOCK_DESIGN_BYTES];
     char too_many[3 * (GORZHANI_MOST_RULES + 1) + 1] = "";
     memcpy(by_bytes, design, design_len);
@@ -163,7 +159,7 @@ static void typed(void) {
     int32_t rules = type("AF p1\n");
     printf("typed: rules %d, %s\n", (int)rules, memcmp(by_bytes, design, design_len) == 0 ? "the same design" : "another design");
 
-    rules = type(THREE_RULES FOURTH_RULE);
+    rules = type(four_rules);
     const uint8_t *formulas = design + design_len - GORZHANI_RULE_BLOCKS_BYTES, *last = formulas + GORZHANI_BLOCK_BYTES + 4 + rules - 1;
     printf("typed: rules %d, formulas %d, the last rule is formula %d, of kind %d\n", (int)rules, formulas[1], *last, formulas[4 + 4 * *last]);
     search_and_judge("four typed rules", design);
@@ -178,38 +174,6 @@ static void typed(void) {
            declined(gorzhani_rules((const uint8_t *)"", 0, by_bytes, GORZHANI_RULE_BLOCKS_BYTES - 1), GORZHANI_REFUSED_SHORT_RESULT));
     printf("refusals left the rules %s\n", design[design_len - GORZHANI_BLOCK_BYTES + 1] == 4 ? "as they were" : "changed");
     printf("no rules: %d\n", (int)type(""));
-}
-
-/* Asks for the verdict on a converter of three records, and prints it with the first rule that fails. */
-static void colour(const char *what, const uint8_t *converter, size_t work_len) {
-    uint8_t work[3 * GORZHANI_CELL_BYTES], rule = GORZHANI_MOST_RULES;
-    int32_t answer = gorzhani_verdict(design, design_len, converter, 3 * GORZHANI_RECORD_BYTES, work, work_len, &rule);
-    printf("%s: verdict %d, ", what, (int)answer);
-    if (answer == -GORZHANI_REFUSED_RULE) printf("rule %d fails\n", rule);
-    else printf("the rule is %s\n", rule == GORZHANI_MOST_RULES ? "as it was" : "another");
-}
-
-/* The paper's converter for the handshake pair (its Figure 5), as an editor colours it while rules and records are changed. Of the last three rules, the second
- * fails since s0 may wait for ever, and the third since t1 comes. */
-static void drawn(void) {
-    uint8_t converter[3 * GORZHANI_RECORD_BYTES] = {
-        0, 0, 0, 2, 1, 0, 0, 0, 1, 0, 0, 0, 0, 0, 0, 0,
-        [GORZHANI_RECORD_BYTES] = 1, 0, 0, 2, 2, 255, 0, 0, 2, 0, 0, 0, 0, 0, 1, 0,
-        [2 * GORZHANI_RECORD_BYTES] = 0, 1, 0, 2, 1, 254, 0, 0, 1, 0, 0, 254, 0, 0, 0, 0
-    };
-    const size_t enough = 3 * GORZHANI_CELL_BYTES;
-    handshake();
-    end(2, 0, 0);
-    colour("no rules", converter, enough);
-    type(THREE_RULES FOURTH_AS_PRINTED);
-    colour("the fourth rule as printed", converter, enough);
-    type(THREE_RULES FOURTH_RULE);
-    colour("the fourth rule as its words say", converter, enough);
-    type("p0\nAF p1\nAG p18\n");
-    colour("two rules that fail", converter, enough);
-    colour("short work", converter, enough - 1);
-    converter[3] = 1;
-    colour("a transition left out", converter, enough);
 }
 
 /* A kernel that ticks or sends 1, a host that reads 1 or 2, and a third side that ticks or sends 3: one position, and a transition for each of four choices. */
@@ -283,6 +247,5 @@ int main(void) {
 
     waits();
     typed();
-    drawn();
     return 0;
 }
