@@ -1,7 +1,6 @@
 // What the public calls answer: a refusal's number alone, or a value.
 
 // The writer's answer: how many blocks it wrote.
-#[derive(Drop)]
 #[derive(Clone, Copy)]
 pub enum Written {
     Blocks(usize),
@@ -9,7 +8,6 @@ pub enum Written {
 }
 
 // The block reader's answer: how many records it read.
-#[derive(Drop)]
 #[derive(Clone, Copy)]
 pub enum Read {
     Records(usize),

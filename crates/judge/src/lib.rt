@@ -11,7 +11,6 @@ use layout::{designs, ranges, sizes};
 use refusals::{converters, design_tests};
 
 // Yes, or a refusal's number.
-#[derive(Drop)]
 #[derive(Clone, Copy)]
 pub enum Verdict {
     Yes,

@@ -8,7 +8,6 @@ ghost use Rattle.layout.specs.Tests.{form_right};
 use crate::sizes;
 
 // The kind, 1 to 9, and the operands; an operand that the kind doesn't have is 0.
-#[derive(Drop)]
 #[derive(Clone, Copy)]
 pub struct FormulaRecord {
     pub kind: u8,

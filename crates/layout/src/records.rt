@@ -8,7 +8,6 @@ ghost use Rattle.layout.specs.Records.{names_at, events_at, transition_at, recor
 use crate::{events, sizes, words};
 
 // A transition place of a converter record: an event for each side, and the next record.
-#[derive(Drop)]
 #[derive(Clone, Copy)]
 pub struct Transition {
     pub events: [i8; sizes::SIDES],
@@ -16,7 +15,6 @@ pub struct Transition {
 }
 
 // The state of each side that the record names, and its transitions.
-#[derive(Drop)]
 #[derive(Clone, Copy)]
 pub struct Record {
     pub names: [u8; sizes::SIDES],
@@ -24,7 +22,6 @@ pub struct Record {
     pub places: [Transition; sizes::PLACES],
 }
 
-#[derive(Drop)]
 #[derive(Clone, Copy)]
 pub enum Outcome {
     Added,
@@ -35,7 +32,6 @@ pub enum Outcome {
 }
 
 // The record as it is after an addition.
-#[derive(Drop)]
 #[derive(Clone, Copy)]
 pub struct Addition {
     pub outcome: Outcome,

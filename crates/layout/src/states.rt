@@ -8,14 +8,12 @@ ghost use Rattle.layout.specs.States.{place_at, state_at, move_of, state_of, mov
 use crate::{events, sizes, words};
 
 // A transition place of a state.
-#[derive(Drop)]
 #[derive(Clone, Copy)]
 pub struct Place {
     pub event: i8,
     pub target: u8,
 }
 
-#[derive(Drop)]
 #[derive(Clone, Copy)]
 pub struct StateRecord {
     pub label: u16,

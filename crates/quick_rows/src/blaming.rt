@@ -14,7 +14,6 @@ const FORK_FIRST: [u8; 104] = *b"\
 const SIXTEEN: [u8; 16] = [26, 17, 8, 8, 26, 35, 8, 17, 26, 35, 8, 8, 17, 17, 26, 35];
 
 // An answer as two numbers: the call's, and the place.
-#[derive(Drop)]
 #[derive(Clone, Copy)]
 struct Said(u64, u64);
 

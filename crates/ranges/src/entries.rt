@@ -12,7 +12,6 @@ pub const MOST_WAITS: u8 = 15;
 pub const NO_GREATEST: u8 = 255;
 
 // How often a state of a side may wait.
-#[derive(Drop)]
 #[derive(Clone, Copy)]
 pub struct Entry {
     pub side: u8,

@@ -13,7 +13,6 @@ use layout::{designs, ranges as bytes};
 use refusals::design_tests;
 
 // "Done", or a refusal's number.
-#[derive(Drop)]
 #[derive(Clone, Copy)]
 pub enum Answer {
     Done,

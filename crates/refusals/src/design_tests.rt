@@ -26,7 +26,6 @@ fn length_right(s: &[u8]) -> bool
 // ---- 2, 3, 4: block by block
 
 // What is asked of a block: its kind, and the limits of its record count.
-#[derive(Drop)]
 #[derive(Clone, Copy)]
 struct Asked {
     kind: usize,

@@ -14,7 +14,6 @@ use layout::{blocks, sizes};
 use lines::Outcome;
 
 // The count of rules, or a refusal's number.
-#[derive(Drop)]
 #[derive(Clone, Copy)]
 pub enum Answer {
     Rules(usize),

@@ -13,7 +13,6 @@ use tokens::Token;
 pub const MOST_DEPTH: usize = 32;
 
 // The rules of a text: how many there are, how many records they have, and the worst of their grades.
-#[derive(Drop)]
 #[derive(Clone, Copy)]
 pub struct Text {
     pub rules: usize,
@@ -21,7 +20,6 @@ pub struct Text {
     pub grade: Grade,
 }
 
-#[derive(Drop)]
 #[derive(Clone, Copy)]
 pub enum Outcome {
     Read(Text),

@@ -8,7 +8,6 @@ use crate::records;
 use tokens::Quantifier;
 
 // What 20 says of a part: it has no temporal part, it has some, or it is refused.
-#[derive(Drop)]
 #[derive(Clone, Copy)]
 pub enum Grade {
     Plain,
@@ -17,7 +16,6 @@ pub enum Grade {
 }
 
 // A part that was read: the place behind it, how many records there are then, and its grade. Its last record is the last of these.
-#[derive(Drop)]
 #[derive(Clone, Copy)]
 pub struct Part {
     pub next: usize,
@@ -25,7 +23,6 @@ pub struct Part {
     pub grade: Grade,
 }
 
-#[derive(Drop)]
 #[derive(Clone, Copy)]
 pub enum Outcome {
     Read(Part),

@@ -10,7 +10,6 @@ use tokens::{Operator, Quantifier, Token};
 
 // The place behind the prefixes, the height of the pile of pending entries and the number of records then, the grade that they give the part at least, whether there is a
 // negation among them, and whether they are odd in number.
-#[derive(Drop)]
 #[derive(Clone, Copy)]
 pub struct Prefixes {
     pub next: usize,

@@ -23,7 +23,6 @@ use Rattle.refusals.proofs.Accepted.{converter_length, events_length, right_well
 use Rattle.layout.proofs.Nodes.{WellFormedNode}
 use Rattle.layout.proofs.Tables.{as_table, and_true}
 use Rattle.runner.specs.declared.Runner.{Runner}
-use Rattle.runner.specs.declared.Ticked.{Ticked}
 use Rattle.runner.specs.Ticks.{delivered, can_show, tick_refusal, refused, moved_by, taken, ticked}
 use Rattle.runner.specs.Runs.{runner_of, ticked_of}
 use Rattle.runner.proofs.Refusals.{goes_on, stays}

@@ -1,5 +1,7 @@
 // One tick of a converter over its bytes: the sides show events, the first transition of the runner's record that fits is taken, and its
 // events are delivered.
+#![tactic(auto)]
+
 ghost use Rattle.std.specs.Prelude.{◌≡◌, true, [], ◌∷◌, ◌*◌, ◌<◌};
 ghost use Rattle.model.specs.Converters.{node};
 ghost use Rattle.model.specs.Judged.{all};
@@ -14,7 +16,6 @@ use refusals::converters;
 
 // What a host lends: the number of a record, and the events last delivered to the sides.
 #[repr(C)]
-#[derive(Drop)]
 #[derive(Clone, Copy)]
 pub struct Runner {
     pub record: u16,
@@ -37,7 +38,6 @@ impl Runner {
 }
 
 // "done", or a refusal's number.
-#[derive(Drop)]
 #[derive(Clone, Copy)]
 pub enum Answer {
     Done,
@@ -45,7 +45,6 @@ pub enum Answer {
 }
 
 // The answer, and the runner as the tick leaves it.
-#[derive(Drop)]
 #[derive(Clone, Copy)]
 pub struct Ticked {
     pub answer: Answer,

@@ -9,7 +9,6 @@ ghost use Rattle.tokens.specs.Scans.{SpacesEnd, WordEnd, Scanning, Scans};
 use layout::sizes;
 
 // On every path, or on some path.
-#[derive(Drop)]
 #[derive(Clone, Copy)]
 pub enum Quantifier {
     All,
@@ -17,7 +16,6 @@ pub enum Quantifier {
 }
 
 // At the next step, at every step, at some step.
-#[derive(Drop)]
 #[derive(Clone, Copy)]
 pub enum Operator {
     Next,
@@ -25,7 +23,6 @@ pub enum Operator {
     Eventually,
 }
 
-#[derive(Drop)]
 #[derive(Clone, Copy)]
 pub enum Token {
     // p0 to p47
@@ -61,7 +58,6 @@ pub enum Token {
 }
 
 // A token, and the place behind it.
-#[derive(Drop)]
 #[derive(Clone, Copy)]
 pub struct Found {
     pub token: Token,

@@ -1,0 +1,82 @@
+-- `take_first` meets its contract. The invariant: the first transition that fits is the first of those behind the k that were tried.
+use mathlib.Core.Path.{◌≡◌, refl, sym, ap, ◌∙◌}
+use Prim.Native.Nat.{◌<◌}
+use native.Mathlib.Omega.{arith}
+use borrow.Author.Rules.{rules}
+use lib.ListN.{length, get_or}
+use Rattle.model.specs.Events.{tick}
+use Rattle.model.specs.Converters.{Edge, Node, node, edge, side_events}
+use Rattle.model.specs.Runs.{all_fit}
+use Rattle.layout.specs.Sizes.{place_count}
+use Rattle.layout.specs.Converters.{records, converter}
+use Rattle.layout.proofs.Nodes.{WellFormedNode}
+use Rattle.layout.proofs.SignedBytes.{read_back}
+use Rattle.refusals.proofs.Accepted.{events_length, right_well_formed}
+use Rattle.runner.specs.declared.Answer.TheVariants.{Done}
+use Rattle.runner.specs.Ticks.{taken}
+use Rattle.runner.proofs.FirstFit.{fits_here, fits_later, fits_nowhere}
+use Rattle.runner.proofs.take_first.Goals as goal
+use Rattle.runner.proofs.take_first.Goals.{After-duals-events, After-fits_events, In-loop-k, Start}
+
+-- record c as a converter state
+abbrev here : Start → Node
+here c = node (converter c.args.s.now) c.args.c
+
+formed : (c : Start) → WellFormedNode (records c.args.s.now) (here c)
+formed c = right_well_formed c.args.s.now c.args.c c.requires.0 c.requires.1
+
+abbrev tried : In-loop-k → Edge
+tried c = edge (node (converter c.args.s.now) c.args.c) c.loop-k.k
+
+-- it is there
+there : (c : In-loop-k) → c.loop-k.k < length (node (converter c.args.s.now) c.args.c).edges
+there c = omega (arith, c.edge_count-n.ensures)
+
+placed : (c : In-loop-k) → c.loop-k.k < place_count
+placed c = omega (arith, there c, (right_well_formed c.args.s.now c.args.c c.requires.0 c.requires.1).at_most_eight)
+
+pub loop-k-init : goal.loop-k-init
+loop-k-init c = (refl, search rules)
+
+pub edge_at-t-requires : goal.edge_at-t-requires
+edge_at-t-requires c = (c.requires.0, there (goal.at.edge_at-t-requires c).In-loop-k, placed (goal.at.edge_at-t-requires c).In-loop-k)
+
+pub duals-events-requires : goal.duals-events-requires
+duals-events-requires c = λ i h.
+    let k = c.loop-k.k in
+    let one_each = events_length c.args.s.now c.args.c k c.requires.0 (there (goal.at.duals-events-requires c).In-loop-k) (placed (goal.at.duals-events-requires c).In-loop-k) in
+    rw (ap (λ (x : Edge). x.events) c.edge_at-t.ensures) ((formed (goal.at.duals-events-requires c).Start).in_range_at k (there (goal.at.duals-events-requires c).In-loop-k) i (omega arith))
+
+-- the side events that are made of its events
+made : (c : After-duals-events) → c.duals-events.result ≡ side_events (edge (node (converter c.args.s.now) c.args.c) c.loop-k.k)
+made c = c.duals-events.ensures ∙ ap side_events c.edge_at-t.ensures
+
+asked : (c : After-fits_events) → c.fits_events.result ≡ all_fit c.args.shown (side_events (edge (node (converter c.args.s.now) c.args.c) c.loop-k.k))
+asked c = c.fits_events.ensures ∙ ap (all_fit c.args.shown) (c.duals-events.ensures ∙ ap side_events c.edge_at-t.ensures)
+
+pub returns-then-fits_events : goal.returns-then-fits_events
+unfolding taken
+returns-then-fits_events c =
+    let l = c.loop-k in
+    let p = l.invariant.0 ∙ fits_here c.args.shown (here (goal.at.returns-then-fits_events c).Start).edges l.k (there (goal.at.returns-then-fits_events c).In-loop-k) (sym (asked (goal.at.returns-then-fits_events c).After-fits_events) ∙ c.if-fits_events.true) in
+    let q = c.duals-events.result in
+    let m = made (goal.at.returns-then-fits_events c).After-duals-events in
+    let next = ap (λ x. x.next) c.edge_at-t.ensures in
+    let first = read_back (get_or q 0 tick) c.moved-arg-1.given ∙ ap (λ es. get_or es 0 tick) m in
+    let second = read_back (get_or q 1 tick) c.moved-arg-then-fits_events-1.given ∙ ap (λ es. get_or es 1 tick) m in
+    let third = read_back (get_or q 2 tick) c.moved-arg-then-fits_events-2-1.given ∙ ap (λ es. get_or es 2 tick) m in
+    ap (λ r. record { answer = Done; runner = r }) c.moved.ensures
+    ∙ (λ i. record { answer = Done; runner = record { «record» = next i; first = first i; second = second i; third = third i } })
+    ∙ sym (ap (taken c.args.runner) p)
+
+pub loop-k-preserved : goal.loop-k-preserved
+loop-k-preserved c =
+    let l = c.loop-k in
+    (l.invariant.0 ∙ fits_later c.args.shown (here (goal.at.loop-k-preserved c).Start).edges l.k (there (goal.at.loop-k-preserved c).In-loop-k) (sym (asked (goal.at.loop-k-preserved c).After-fits_events) ∙ c.if-fits_events.false), search rules)
+
+pub returns : goal.returns
+unfolding taken
+returns c =
+    let l = c.loop-k in
+    let e : l.k ≡ length (here (goal.at.returns c).Start).edges = omega (arith, c.edge_count-n.ensures) in
+    sym (ap (taken c.args.runner) (l.invariant.0 ∙ fits_nowhere c.args.shown (here (goal.at.returns c).Start).edges l.k e))
