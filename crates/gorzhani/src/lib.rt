@@ -1,5 +1,7 @@
 // The calls for C, as include/gorzhani.h declares them, and for Rust. A slice is a pointer and a length, a lent struct a pointer. Each call is the proved
 // call below it, and its answer is a number: -k for a refusal k, a count, or 0 for "yes" and "done". specs/Calls says what each promises.
+#![tactic(auto)]
+
 ghost use Rattle.std.specs.Prelude.{◌≡◌, [], ◌∷◌, ◌≤◌, pos};
 ghost use Rattle.layout.specs.Sizes.{most_records};
 ghost use Rattle.gorzhani.specs.Codes.{refusal_code, tick_code};
