@@ -14,8 +14,8 @@ use Rattle.rules.proofs.rules.Goals as goal
 use Rattle.rules.proofs.rules.Goals.{Else-refusal-ne0, In-Read}
 
 -- the rules of the text
-text-read : (c : In-Read) → ReadAs c.args.text.now c.in-Read.read c.read_lines.new.records c.read_lines.new.rules
-text-read c =
+text_read : (c : In-Read) → ReadAs c.args.text.now c.in-Read.read c.read_lines.new.records c.read_lines.new.rules
+text_read c =
     let x = c.read_lines in
     subst (λ (o : Outcome). Lining c.args.text.now o x.new.records x.new.rules) c.in-Read.is x.ensures
 
@@ -32,7 +32,7 @@ returns-in_default c =
 pub returns-then-refusal-ne0 : goal.returns-then-refusal-ne0
 returns-then-refusal-ne0 c =
     let a = c.args in
-    declined a.text.now a.res.now (text-read (goal.at.returns-then-refusal-ne0 c).In-Read) c.text_refusal-refusal.result c.text_refusal-refusal.ensures c.if-refusal-ne0.true
+    declined a.text.now a.res.now (text_read (goal.at.returns-then-refusal-ne0 c).In-Read) c.text_refusal-refusal.result c.text_refusal-refusal.ensures c.if-refusal-ne0.true
 
 pub overflow_cast-count : goal.overflow_cast-count
 overflow_cast-count c = omega (arith, (accepted (goal.at.overflow_cast-count c).Else-refusal-ne0).few_records)
@@ -57,5 +57,5 @@ pub returns : goal.returns
 returns c =
     let a = c.args in
     let r = c.in-Read.read in
-    written a.text.now a.res.now (text-read (goal.at.returns c).In-Read) c.write-2.new.s (sym c.text_refusal-refusal.ensures ∙ c.if-refusal-ne0.false)
+    written a.text.now a.res.now (text_read (goal.at.returns c).In-Read) c.write-2.new.s (sym c.text_refusal-refusal.ensures ∙ c.if-refusal-ne0.false)
     (c.write-2.ensures ∙ ap (λ (xs : List ℕ). put xs block_bytes (sealed 4 r.rules 0 (part c.read_lines.new.rules 0 r.rules))) c.write.ensures)

@@ -10,19 +10,19 @@ use Rattle.layout.specs.Sizes.{side_count}
 use Rattle.layout.proofs.SignedBytes.{read_back}
 use Rattle.runner.proofs.AllFit.{fit_each, unfit_one}
 use borrow.Author.Rules.{rules}
-use Rattle.runner.proofs.fits_events.Invariants.{fits-at}
+use Rattle.runner.proofs.fits_events.Invariants.{fits_at}
 use Rattle.runner.proofs.fits_events.Goals as goal
 use Rattle.runner.proofs.fits_events.Goals.{After-fits_event, Start}
 
 -- there is a shown event for each side, and an event
-shown-each : (c : Start) → length c.args.shown ≡ side_count
-shown-each c = c.well_formed.0.1.0.1
+shown_each : (c : Start) → length c.args.shown ≡ side_count
+shown_each c = c.well_formed.0.1.0.1
 
 event_each : (c : Start) → length c.args.events ≡ side_count
 event_each c = c.well_formed.1.0.1.0.1
 
 -- the answer for it
-asked : (c : After-fits_event) → fits-at c.args.shown c.args.events c.loop-i.i ≡ c.fits_event.result
+asked : (c : After-fits_event) → fits_at c.args.shown c.args.events c.loop-i.i ≡ c.fits_event.result
 asked c =
     let a = c.args in
     let i = c.loop-i.i in
@@ -33,7 +33,7 @@ loop-i-init c = (search rules, λ j h. absurd (not-suc-le-zero h))
 
 pub returns-then-not-fits_event : goal.returns-then-not-fits_event
 returns-then-not-fits_event c =
-    sym (unfit_one c.args.shown c.args.events c.loop-i.i (omega (arith, shown-each (goal.at.returns-then-not-fits_event c).Start)) (asked (goal.at.returns-then-not-fits_event c).After-fits_event ∙ c.if-not-fits_event.true))
+    sym (unfit_one c.args.shown c.args.events c.loop-i.i (omega (arith, shown_each (goal.at.returns-then-not-fits_event c).Start)) (asked (goal.at.returns-then-not-fits_event c).After-fits_event ∙ c.if-not-fits_event.true))
 
 pub loop-i-preserved : goal.loop-i-preserved
 loop-i-preserved c =
@@ -41,4 +41,4 @@ loop-i-preserved c =
 
 pub returns : goal.returns
 returns c =
-    sym (fit_each c.args.shown c.args.events (shown-each (goal.at.returns c).Start ∙ sym (event_each (goal.at.returns c).Start)) (λ j h. c.loop-i.invariant.1 j (omega (arith, shown-each (goal.at.returns c).Start))))
+    sym (fit_each c.args.shown c.args.events (shown_each (goal.at.returns c).Start ∙ sym (event_each (goal.at.returns c).Start)) (λ j h. c.loop-i.invariant.1 j (omega (arith, shown_each (goal.at.returns c).Start))))

@@ -16,8 +16,8 @@ use Rattle.files.proofs.reader.file_refusal.Goals as goal
 use Rattle.files.proofs.reader.file_refusal.Goals.{After-loop-k, Else-not-file_size_right}
 
 -- the size is right
-size-passed : (c : Else-not-file_size_right) → file_size_right c.args.s.now ≡ true
-size-passed c = sym c.file_size_right.ensures ∙ c.if-not-file_size_right.false
+size_passed : (c : Else-not-file_size_right) → file_size_right c.args.s.now ≡ true
+size_passed c = sym c.file_size_right.ensures ∙ c.if-not-file_size_right.false
 
 -- after the loop all blocks are tested
 found : (c : After-loop-k) → c.loop-k.first ≡ first_failing (whole c.args.s.now)
@@ -41,7 +41,7 @@ unfolding first_failing
 returns-then-not-file_size_right c = rw (sym c.file_size_right.ensures ∙ c.if-not-file_size_right.true)
 
 pub count_refusal-first-requires : goal.count_refusal-first-requires
-count_refusal-first-requires c = size-passed (goal.at.count_refusal-first-requires c).Else-not-file_size_right
+count_refusal-first-requires c = size_passed (goal.at.count_refusal-first-requires c).Else-not-file_size_right
 
 pub loop-k-init : goal.loop-k-init
 loop-k-init c = (search rules, c.count_refusal-first.ensures ∙ start c.args.s.now)
@@ -49,8 +49,8 @@ loop-k-init c = (search rules, c.count_refusal-first.ensures ∙ start c.args.s.
 pub block_refusal-requires : goal.block_refusal-requires
 block_refusal-requires c = (
   c.loop-k-test.true,
-  omega (arith, c.block_count-n.ensures, (sized c.args.s.now (size-passed (goal.at.block_refusal-requires c).Else-not-file_size_right)).at_most),
-  omega (arith, c.block_count-n.ensures, (sized c.args.s.now (size-passed (goal.at.block_refusal-requires c).Else-not-file_size_right)).whole),
+  omega (arith, c.block_count-n.ensures, (sized c.args.s.now (size_passed (goal.at.block_refusal-requires c).Else-not-file_size_right)).at_most),
+  omega (arith, c.block_count-n.ensures, (sized c.args.s.now (size_passed (goal.at.block_refusal-requires c).Else-not-file_size_right)).whole),
 )
 
 pub loop-k-preserved : goal.loop-k-preserved
@@ -65,20 +65,20 @@ pub returns-then-first-ne0 : goal.returns-then-first-ne0
 returns-then-first-ne0 c =
     let f = c.args.s.now in
     found (goal.at.returns-then-first-ne0 c).After-loop-k
-    ∙ sym (passes_on record { number = 1; passes = file_size_right f } (whole f ++ rest f) (size-passed (goal.at.returns-then-first-ne0 c).Else-not-file_size_right) ∙ refused_first (whole f) (rest f) (λ z. c.if-first-ne0.true (found (goal.at.returns-then-first-ne0 c).After-loop-k ∙ z)))
+    ∙ sym (passes_on record { number = 1; passes = file_size_right f } (whole f ++ rest f) (size_passed (goal.at.returns-then-first-ne0 c).Else-not-file_size_right) ∙ refused_first (whole f) (rest f) (λ z. c.if-first-ne0.true (found (goal.at.returns-then-first-ne0 c).After-loop-k ∙ z)))
 
 pub file_records_right-requires : goal.file_records_right-requires
 file_records_right-requires c =
     let f = c.args.s.now in
     let b = blocks_pass f (sym (found (goal.at.file_records_right-requires c).After-loop-k) ∙ c.if-first-ne0.false) in
-    (size-passed (goal.at.file_records_right-requires c).Else-not-file_size_right, b.few_records, count_fits f (sized f (size-passed (goal.at.file_records_right-requires c).Else-not-file_size_right)) b)
+    (size_passed (goal.at.file_records_right-requires c).Else-not-file_size_right, b.few_records, count_fits f (sized f (size_passed (goal.at.file_records_right-requires c).Else-not-file_size_right)) b)
 
 pub returns-then-not-file_records_right : goal.returns-then-not-file_records_right
 unfolding first_failing
 returns-then-not-file_records_right c =
-    sym (later c.args.s.now (size-passed (goal.at.returns-then-not-file_records_right c).Else-not-file_size_right) (sym (found (goal.at.returns-then-not-file_records_right c).After-loop-k) ∙ c.if-first-ne0.false) ∙ ap (λ b. cond b 0 11) (sym c.file_records_right.ensures ∙ c.if-not-file_records_right.true))
+    sym (later c.args.s.now (size_passed (goal.at.returns-then-not-file_records_right c).Else-not-file_size_right) (sym (found (goal.at.returns-then-not-file_records_right c).After-loop-k) ∙ c.if-first-ne0.false) ∙ ap (λ b. cond b 0 11) (sym c.file_records_right.ensures ∙ c.if-not-file_records_right.true))
 
 pub returns : goal.returns
 unfolding first_failing
 returns c =
-    sym (later c.args.s.now (size-passed (goal.at.returns c).Else-not-file_size_right) (sym (found (goal.at.returns c).After-loop-k) ∙ c.if-first-ne0.false) ∙ ap (λ b. cond b 0 11) (sym c.file_records_right.ensures ∙ c.if-not-file_records_right.false))
+    sym (later c.args.s.now (size_passed (goal.at.returns c).Else-not-file_size_right) (sym (found (goal.at.returns c).After-loop-k) ∙ c.if-first-ne0.false) ∙ ap (λ b. cond b 0 11) (sym c.file_records_right.ensures ∙ c.if-not-file_records_right.false))

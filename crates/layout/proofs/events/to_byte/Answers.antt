@@ -19,8 +19,8 @@ below c = (rw (down c).1 at c.ranges.e).sfits
 difference : (c : Else-e-ge0) → negsuc 0 -ℤ to_z w8 (of_z w8 c.args.e) ≡ pos (down c).0
 difference c = ap (λ z. negsuc 0 -ℤ z) (read_back c.args.e c.ranges.e.sfits ∙ (down c).1) ∙ above_zero (down c).0
 
-difference-read : (c : Else-e-ge0) → to_z w8 (of_z w8 (negsuc 0 -ℤ to_z w8 (of_z w8 c.args.e))) ≡ pos (down c).0
-difference-read c = ap (λ z. to_z w8 (of_z w8 z)) (difference c) ∙ read_back (pos (down c).0) (below c)
+difference_read : (c : Else-e-ge0) → to_z w8 (of_z w8 (negsuc 0 -ℤ to_z w8 (of_z w8 c.args.e))) ≡ pos (down c).0
+difference_read c = ap (λ z. to_z w8 (of_z w8 z)) (difference c) ∙ read_back (pos (down c).0) (below c)
 
 pub overflow_cast-result : goal.overflow_cast-result
 overflow_cast-result c =
@@ -31,10 +31,10 @@ pub overflow_sub-result : goal.overflow_sub-result
 overflow_sub-result c = rw (difference (goal.at.overflow_sub-result c).Else-e-ge0) (record { sfits = below (goal.at.overflow_sub-result c).Else-e-ge0 })
 
 pub overflow_cast-result-else-e-ge0 : goal.overflow_cast-result-else-e-ge0
-overflow_cast-result-else-e-ge0 c = rw (difference-read (goal.at.overflow_cast-result-else-e-ge0 c).Else-e-ge0) (tt, record { fits = omega (arith, below (goal.at.overflow_cast-result-else-e-ge0 c).Else-e-ge0) })
+overflow_cast-result-else-e-ge0 c = rw (difference_read (goal.at.overflow_cast-result-else-e-ge0 c).Else-e-ge0) (tt, record { fits = omega (arith, below (goal.at.overflow_cast-result-else-e-ge0 c).Else-e-ge0) })
 
 pub overflow_sub-result-else-e-ge0 : goal.overflow_sub-result-else-e-ge0
-overflow_sub-result-else-e-ge0 c = rw (difference-read (goal.at.overflow_sub-result-else-e-ge0 c).Else-e-ge0) (omega (arith, below (goal.at.overflow_sub-result-else-e-ge0 c).Else-e-ge0))
+overflow_sub-result-else-e-ge0 c = rw (difference_read (goal.at.overflow_sub-result-else-e-ge0 c).Else-e-ge0) (omega (arith, below (goal.at.overflow_sub-result-else-e-ge0 c).Else-e-ge0))
 
 pub returns-then-e-ge0 : goal.returns-then-e-ge0
 unfolding event_byte
@@ -42,4 +42,4 @@ returns-then-e-ge0 c = rw (read_back c.args.e c.ranges.e.sfits, (up (goal.at.ret
 
 pub returns-else-e-ge0 : goal.returns-else-e-ge0
 unfolding event_byte
-returns-else-e-ge0 c = ap (λ z. 255 - nat_abs z) (difference-read (goal.at.returns-else-e-ge0 c).Else-e-ge0) ∙ sym (ap event_byte (down (goal.at.returns-else-e-ge0 c).Else-e-ge0).1)
+returns-else-e-ge0 c = ap (λ z. 255 - nat_abs z) (difference_read (goal.at.returns-else-e-ge0 c).Else-e-ge0) ∙ sym (ap event_byte (down (goal.at.returns-else-e-ge0 c).Else-e-ge0).1)

@@ -40,12 +40,12 @@ unfolding ranged ranges_to table table_from flatten
 loop-j-init c =
     let S = side (design c.args.d.now) c.args.i in
     let few = (accepted_counts _ c.requires.0).few_states c.args.i c.requires.3 in
-    let put-old = c.old_states.ensures in
+    let put_old = c.old_states.ensures in
     let b = c.args.s.now in (
       search rules,
       c.state_count-n.ensures,
       refl,
-      put-old ∙ sym (ap (λ l. put l 0 (states_to S)) put-old ∙ put_again (states_to S) (states_to S) b (omega arith) (omega (arith, length_states S, c.requires.4))),
+      put_old ∙ sym (ap (λ l. put l 0 (states_to S)) put_old ∙ put_again (states_to S) (states_to S) b (omega arith) (omega (arith, length_states S, c.requires.4))),
     )
 
 -- all along there are as many bytes as were lent
@@ -66,28 +66,28 @@ module _ (ds es : List ℕ) (i j : ℕ) (e : Entry) (read : e ≡ entry_at es j)
       → P ds es i j e
   of_entry law = law ds es i j e read right listed own
 
-  own-there : e.state < length (side (design ds) i)
-  own-there = of_entry named
+  own_there : e.state < length (side (design ds) i)
+  own_there = of_entry named
 
-  own-few : design_refusal ds ≡ 0 → i < side_count → e.state < most_states
-  own-few r h = omega (arith, own-there, (accepted_counts ds r).few_states i h)
+  own_few : design_refusal ds ≡ 0 → i < side_count → e.state < most_states
+  own_few r h = omega (arith, own_there, (accepted_counts ds r).few_states i h)
 
-  own-yet : (n : ℕ) → n ≡ length (side_with ds es i j) → e.state < n
-  own-yet n m = omega (arith, m, of_entry named_yet)
+  own_yet : (n : ℕ) → n ≡ length (side_with ds es i j) → e.state < n
+  own_yet n m = omega (arith, m, of_entry named_yet)
 
   own_room : (n : ℕ) → n ≡ length (side_with ds es i j) → sides_fit ds es ≡ true → i < side_count → n + last_count (range_of e) ≤ most_states
   own_room n m f h = omega (arith, m, of_entry room_for f h)
 
   -- the record that is read is that state
   is_state : (q : StateRecord) → q ≡ stored_state ds i e.state → i < side_count → state_of q ≡ state (side (design ds) i) e.state
-  is_state q u h = ap state_of u ∙ stored_state_is ds i e.state h own-there
+  is_state q u h = ap state_of u ∙ stored_state_is ds i e.state h own_there
 
 pub side_state-requires : goal.side_state-requires
 side_state-requires c =
     let a = c.args in
     let r = c.read_entry-e in
     let l = in_list (goal.at.side_state-requires c).In-loop-j in
-    ((accepted_counts _ c.requires.0).whole, c.requires.3, own-few a.d.now a.list.now a.i c.loop-j.j r.result r.ensures c.requires.1 l c.if-e-i.true c.requires.0 c.requires.3)
+    ((accepted_counts _ c.requires.0).whole, c.requires.3, own_few a.d.now a.list.now a.i c.loop-j.j r.result r.ensures c.requires.1 l c.if-e-i.true c.requires.0 c.requires.3)
 
 pub replace-requires : goal.replace-requires
 replace-requires c =
@@ -97,10 +97,10 @@ replace-requires c =
     let h = c.loop-j in
     let r = c.read_entry-e in
     let l = in_list (goal.at.replace-requires c).In-loop-j in
-    let few = state_small d c.requires.0 i r.result.state c.requires.3 (own-there d es i h.j r.result r.ensures c.requires.1 l c.if-e-i.true) in (
+    let few = state_small d c.requires.0 i r.result.state c.requires.3 (own_there d es i h.j r.result r.ensures c.requires.1 l c.if-e-i.true) in (
       omega (arith, long (goal.at.replace-requires c).At-loop-j, c.requires.4),
       omega (arith, ap (λ (q : StateRecord). q.count) c.side_state.ensures, few),
-      own-yet d es i h.j r.result r.ensures c.requires.1 l c.if-e-i.true h.n h.invariant.1,
+      own_yet d es i h.j r.result r.ensures c.requires.1 l c.if-e-i.true h.n h.invariant.1,
       own_room d es i h.j r.result r.ensures c.requires.1 l c.if-e-i.true h.n h.invariant.1 c.requires.2 c.requires.3,
     )
 
@@ -131,7 +131,7 @@ loop-j-preserved c =
           let r = range_of e in
           let replaces = named_next (side (design d) i) es i h.j e read own in
           let q = is_state d es i h.j e read c.requires.1 listed own w.side_state.result w.side_state.ensures c.requires.3 ∙ sym (still d es i h.j e read c.requires.1 listed own) in
-          let put-counts : List ℕ → State → ℕ → List ℕ =
+          let put_counts : List ℕ → State → ℕ → List ℕ =
           λ b x n. put (put b (state_bytes * e.state) (state_to (counted r n x 0))) (state_bytes * n) (states_to (counts r n x 1 (last_count r))) in
           let there = named_yet d es i h.j e read c.requires.1 listed own in
           let room = room_for d es i h.j e read c.requires.1 listed own c.requires.2 c.requires.3 in (
@@ -139,8 +139,8 @@ loop-j-preserved c =
             w.n-is ∙ ap₂ ◌+◌ h.invariant.1 w.last_count-n.ensures ∙ sym (ap length replaces ∙ length_replaced R r),
             ap length w.s-is ∙ w.replace.auto.s ∙ h.invariant.2,
             w.s-is ∙ w.replace.ensures
-                ∙ ap₂ (λ b x. put-counts b x h.n) h.invariant.3 q
-                ∙ ap (put-counts (put s₀ 0 (states_to R)) (state R e.state)) h.invariant.1
+                ∙ ap₂ (λ b x. put_counts b x h.n) h.invariant.3 q
+                ∙ ap (put_counts (put s₀ 0 (states_to R)) (state R e.state)) h.invariant.1
                 ∙ replaced_put s₀ R r there (omega (arith, room, h.invariant.2, lasts, c.requires.4))
                 ∙ ap (λ S. put s₀ 0 (states_to S)) (sym replaces),
           ))

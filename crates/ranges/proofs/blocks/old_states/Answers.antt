@@ -27,8 +27,8 @@ pub loop-k-init : goal.loop-k-init
 unfolding states_to flatten
 loop-k-init c = (search rules, refl, sym (put_nil _ 0 (omega arith)))
 
-abbrev old-side : At-loop-k → Side
-old-side c = side (design c.args.d.now) c.args.i
+abbrev old_side : At-loop-k → Side
+old_side c = side (design c.args.d.now) c.args.i
 
 -- its state is there, and is one of sixteen
 there : (c : In-loop-k) → (c.loop-k.k < length (side (design c.args.d.now) c.args.i)) × (c.loop-k.k < most_states)
@@ -50,7 +50,7 @@ write_state-requires c =
 pub loop-k-preserved : goal.loop-k-preserved
 loop-k-preserved c =
     let l = c.loop-k in
-    let S = old-side (goal.at.loop-k-preserved c).At-loop-k in
+    let S = old_side (goal.at.loop-k-preserved c).At-loop-k in
     let h = there (goal.at.loop-k-preserved c).In-loop-k in
     let next : take (l.k + 1) S ≡ take l.k S ++ (state S l.k ∷ []) = ap (λ n. take n S) (add-one l.k) ∙ take-suc S l.k no_state h.0 in (
       omega arith,
@@ -66,5 +66,5 @@ loop-k-preserved c =
 pub returns : goal.returns
 returns c =
     let l = c.loop-k in
-    let S = old-side (goal.at.returns c).At-loop-k in
+    let S = old_side (goal.at.returns c).At-loop-k in
     l.invariant.2 ∙ ap (λ X. put c.args.s.now 0 (states_to X)) (take_all l.k S (omega (arith, c.state_count-n.ensures)))

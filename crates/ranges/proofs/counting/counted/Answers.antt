@@ -23,10 +23,10 @@ unfolding table table_from flatten
 loop-p-init c = (search rules, search rules, refl, refl)
 
 -- whether transition p is kept
-kept-told : (c : After-keeps)
+kept_told : (c : After-keeps)
     → let a = c.args in kept (range_of a.e) a.n a.k (move_of (get_or a.q.places c.loop-p.p no_place)) ≡ c.keeps.result
 unfolding range_of
-kept-told c =
+kept_told c =
     let a = c.args in
     let m = get_or a.q.places c.loop-p.p no_place in
     sym (c.keeps.ensures ∙ ap (λ x. cond (sent x) (leb a.e.least a.k) (below a.k (range_of a.e).greatest)) (read_back m.event c.struct_told-1.given.0.1))
@@ -36,7 +36,7 @@ loop-p-preserved c =
     let l = c.loop-p in
     let a = c.args in
     let r = range_of a.e in
-    let told = kept-told (goal.at.loop-p-preserved c).After-keeps in
+    let told = kept_told (goal.at.loop-p-preserved c).After-keeps in
     elim c.if-keeps.branch [
       | then-keeps w ↦
           (let v = w.placed.result in

@@ -7,11 +7,11 @@ use Rattle.ranges.proofs.counting.keeps.Goals as goal
 use Rattle.ranges.proofs.counting.keeps.Goals.{After-is_sent}
 
 -- the event that was tested
-sent-told : (c : After-is_sent) → c.is_sent.result ≡ sent c.args.event
-sent-told c = c.is_sent.ensures ∙ ap sent (read_back c.args.event (search rules))
+sent_told : (c : After-is_sent) → c.is_sent.result ≡ sent c.args.event
+sent_told c = c.is_sent.ensures ∙ ap sent (read_back c.args.event (search rules))
 
 pub returns-then-is_sent : goal.returns-then-is_sent
-returns-then-is_sent c = rw (sym (sent-told (goal.at.returns-then-is_sent c).After-is_sent) ∙ c.if-is_sent.true)
+returns-then-is_sent c = rw (sym (sent_told (goal.at.returns-then-is_sent c).After-is_sent) ∙ c.if-is_sent.true)
 
 pub returns : goal.returns
-returns c = c.is_below.ensures ∙ sym (rw (sym (sent-told (goal.at.returns c).After-is_sent) ∙ c.if-is_sent.false))
+returns c = c.is_below.ensures ∙ sym (rw (sym (sent_told (goal.at.returns c).After-is_sent) ∙ c.if-is_sent.false))

@@ -7,14 +7,14 @@ use Rattle.ranges.proofs.counting.placed.Goals as goal
 use Rattle.ranges.proofs.counting.placed.Goals.{After-is_sent}
 
 -- the event that was tested
-sent-told : (c : After-is_sent) → c.is_sent.result ≡ sent c.args.m.event
-sent-told c = c.is_sent.ensures ∙ ap sent (read_back c.args.m.event c.struct_told-1.given.0.1)
+sent_told : (c : After-is_sent) → c.is_sent.result ≡ sent c.args.m.event
+sent_told c = c.is_sent.ensures ∙ ap sent (read_back c.args.m.event c.struct_told-1.given.0.1)
 
 pub returns-then-is_sent : goal.returns-then-is_sent
-returns-then-is_sent c = sym (rw (sym (sent-told (goal.at.returns-then-is_sent c).After-is_sent) ∙ c.if-is_sent.true))
+returns-then-is_sent c = sym (rw (sym (sent_told (goal.at.returns-then-is_sent c).After-is_sent) ∙ c.if-is_sent.true))
 
 pub returns : goal.returns
 returns c =
     let event = read_back c.args.m.event c.struct_told-2-1.given.0.1 in
-    let told = sym (sent-told (goal.at.returns c).After-is_sent) ∙ c.if-is_sent.false in
+    let told = sym (sent_told (goal.at.returns c).After-is_sent) ∙ c.if-is_sent.false in
     ap₂ {C = Move} (λ e t. record { event = e; target = t }) event c.onward.ensures ∙ sym (rw told)

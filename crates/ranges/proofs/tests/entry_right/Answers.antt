@@ -32,19 +32,19 @@ returns-then-state_count-k c =
 abbrev entry : Else-state_count-k → Entry
 entry c = c.args.e
 
-abbrev named-side : Else-state_count-k → Side
-named-side c = side (design c.args.d.now) (entry c).side
+abbrev named_side : Else-state_count-k → Side
+named_side c = side (design c.args.d.now) (entry c).side
 
-side-there : (c : Else-state_count-k) → (entry c).side < side_count
-side-there c = c.if-i-ge-SIDES.false
+side_there : (c : Else-state_count-k) → (entry c).side < side_count
+side_there c = c.if-i-ge-SIDES.false
 
-state-there : (c : Else-state_count-k) → (entry c).state < length (named-side c)
-state-there c = omega (arith, c.state_count.ensures)
+state_there : (c : Else-state_count-k) → (entry c).state < length (named_side c)
+state_there c = omega (arith, c.state_count.ensures)
 
 pub side_state-requires : goal.side_state-requires
 side_state-requires c =
     let few = accepted_counts _ c.requires in
-    (few.whole, side-there (goal.at.side_state-requires c).Else-state_count-k, omega (arith, state-there (goal.at.side_state-requires c).Else-state_count-k, few.few_states (entry (goal.at.side_state-requires c).Else-state_count-k).side (side-there (goal.at.side_state-requires c).Else-state_count-k)))
+    (few.whole, side_there (goal.at.side_state-requires c).Else-state_count-k, omega (arith, state_there (goal.at.side_state-requires c).Else-state_count-k, few.few_states (entry (goal.at.side_state-requires c).Else-state_count-k).side (side_there (goal.at.side_state-requires c).Else-state_count-k)))
 
 -- what the call says of the state
 tested : (c : After-waits_itself) → c.waits_itself.result ≡ waits_itself c.args.e.state (state (side (design c.args.d.now) c.args.e.side) c.args.e.state)
@@ -59,8 +59,8 @@ unfolding entry_right
 returns-then-not-waits_itself c =
     sym
     (rw (
-      lt-ltb c.args.e.side side_count (side-there (goal.at.returns-then-not-waits_itself c).Else-state_count-k),
-      lt-ltb c.args.e.state (length (named-side (goal.at.returns-then-not-waits_itself c).Else-state_count-k)) (state-there (goal.at.returns-then-not-waits_itself c).Else-state_count-k),
+      lt-ltb c.args.e.side side_count (side_there (goal.at.returns-then-not-waits_itself c).Else-state_count-k),
+      lt-ltb c.args.e.state (length (named_side (goal.at.returns-then-not-waits_itself c).Else-state_count-k)) (state_there (goal.at.returns-then-not-waits_itself c).Else-state_count-k),
       sym (tested (goal.at.returns-then-not-waits_itself c).After-waits_itself) ∙ c.if-not-waits_itself.true,
     ))
 
@@ -70,7 +70,7 @@ returns c =
     c.counts_right.ensures
     ∙ sym
     (rw (
-      lt-ltb c.args.e.side side_count (side-there (goal.at.returns c).Else-state_count-k),
-      lt-ltb c.args.e.state (length (named-side (goal.at.returns c).Else-state_count-k)) (state-there (goal.at.returns c).Else-state_count-k),
+      lt-ltb c.args.e.side side_count (side_there (goal.at.returns c).Else-state_count-k),
+      lt-ltb c.args.e.state (length (named_side (goal.at.returns c).Else-state_count-k)) (state_there (goal.at.returns c).Else-state_count-k),
       sym (tested (goal.at.returns c).After-waits_itself) ∙ c.if-not-waits_itself.false,
     ))

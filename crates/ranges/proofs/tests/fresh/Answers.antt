@@ -24,8 +24,8 @@ module _ (es : List ℕ) (j i : ℕ) (there here : Entry) (t : there ≡ entry_a
   same : there.side ≡ here.side → there.state ≡ here.state → apart es j i ≡ false
   same p q = told true (and_true (eqb there.side here.side) (eqb there.state here.state) (eq-eqb _ _ p) (eq-eqb _ _ q))
 
-  other-side : (there.side ≡ here.side → ⊥) → apart es j i ≡ true
-  other-side n = told false (and_false (eqb there.side here.side) (eqb there.state here.state) (ne_eqb _ _ n))
+  other_side : (there.side ≡ here.side → ⊥) → apart es j i ≡ true
+  other_side n = told false (and_false (eqb there.side here.side) (eqb there.state here.state) (ne_eqb _ _ n))
 
   other_state : (there.state ≡ here.state → ⊥) → apart es j i ≡ true
   other_state n = told false (and_false_right (eqb there.side here.side) (eqb there.state here.state) (ne_eqb _ _ n))
@@ -49,7 +49,7 @@ loop-i-preserved c =
     let passed : apart a.list.now a.j i ≡ true =
     elim c.if-there-here.branch [
       | then-there-here+else-there-here-2 w ↦ other_state a.list.now a.j i there.result here.result there.ensures here.ensures w.if-there-here-2.false
-      | else-there-here w ↦ other-side a.list.now a.j i there.result here.result there.ensures here.ensures w.if-there-here.false
+      | else-there-here w ↦ other_side a.list.now a.j i there.result here.result there.ensures here.ensures w.if-there-here.false
     ] in
     (search rules, below_more _ _ c.loop-i.invariant.1 passed)
 

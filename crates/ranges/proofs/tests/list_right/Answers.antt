@@ -19,30 +19,30 @@ use Rattle.ranges.proofs.tests.list_right.Goals.{After-entry_right, In-loop-j}
 
 -- ---- what decides
 module _ (ds es : List ℕ) where
-  broken-fails : (length es % entry_bytes ≡ 0 → ⊥) → list_right ds es ≡ false
+  broken_fails : (length es % entry_bytes ≡ 0 → ⊥) → list_right ds es ≡ false
   unfolding list_right
-  broken-fails n = rw (ne_eqb (length es % entry_bytes) 0 n)
+  broken_fails n = rw (ne_eqb (length es % entry_bytes) 0 n)
 
   module _ (whole : length es % entry_bytes ≡ 0) where
-    entries-decide : list_right ds es ≡ (every (entry_count es) (right ds es) && every (entry_count es) (fresh es))
+    entries_decide : list_right ds es ≡ (every (entry_count es) (right ds es) && every (entry_count es) (fresh es))
     unfolding list_right distinct
-    entries-decide = rw (eq-eqb (length es % entry_bytes) 0 whole)
+    entries_decide = rw (eq-eqb (length es % entry_bytes) 0 whole)
 
-    wrong-fails : (j : ℕ) → j < entry_count es → right ds es j ≡ false → list_right ds es ≡ false
-    wrong-fails j h e = entries-decide ∙ rw (every_false (right ds es) (entry_count es) j h e)
+    wrong_fails : (j : ℕ) → j < entry_count es → right ds es j ≡ false → list_right ds es ≡ false
+    wrong_fails j h e = entries_decide ∙ rw (every_false (right ds es) (entry_count es) j h e)
 
     twice_fails : (j : ℕ) → j < entry_count es → fresh es j ≡ false → list_right ds es ≡ false
     twice_fails j h e =
-        entries-decide
+        entries_decide
         ∙ and_false_right (every (entry_count es) (right ds es)) (every (entry_count es) (fresh es)) (every_false (fresh es) (entry_count es) j h e)
 
     all_pass : ((j : ℕ) → j < entry_count es → (right ds es j ≡ true) × (fresh es j ≡ true)) → list_right ds es ≡ true
     all_pass f =
-        entries-decide
+        entries_decide
         ∙ rw (every_true (right ds es) (entry_count es) (λ j h. (f j h).0), every_true (fresh es) (entry_count es) (λ j h. (f j h).1))
 
 pub returns-then-list-ne0 : goal.returns-then-list-ne0
-returns-then-list-ne0 c = let a = c.args in sym (broken-fails a.d.now a.list.now c.if-list-ne0.true)
+returns-then-list-ne0 c = let a = c.args in sym (broken_fails a.d.now a.list.now c.if-list-ne0.true)
 
 pub loop-j-init : goal.loop-j-init
 loop-j-init c = (search rules, λ k h. absurd (not-suc-le-zero h))
@@ -69,7 +69,7 @@ tested c = c.entry_right.ensures ∙ ap (entry_right (design c.args.d.now)) c.re
 pub returns-then-not-entry_right : goal.returns-then-not-entry_right
 returns-then-not-entry_right c =
     sym
-    (wrong-fails c.args.d.now c.args.list.now c.if-list-ne0.false c.loop-j.j (there (goal.at.returns-then-not-entry_right c).In-loop-j)
+    (wrong_fails c.args.d.now c.args.list.now c.if-list-ne0.false c.loop-j.j (there (goal.at.returns-then-not-entry_right c).In-loop-j)
     (sym (tested (goal.at.returns-then-not-entry_right c).After-entry_right) ∙ c.if-not-entry_right.true))
 
 pub fresh-requires : goal.fresh-requires
@@ -83,9 +83,9 @@ returns-then-not-fresh c =
 
 pub loop-j-preserved : goal.loop-j-preserved
 loop-j-preserved c =
-    let now-right = sym (tested (goal.at.loop-j-preserved c).After-entry_right) ∙ c.if-not-entry_right.false in
-    let now-fresh = sym c.fresh.ensures ∙ c.if-not-fresh.false in
-    (search rules, below_more _ _ c.loop-j.invariant.1 (now-right, now-fresh))
+    let now_right = sym (tested (goal.at.loop-j-preserved c).After-entry_right) ∙ c.if-not-entry_right.false in
+    let now_fresh = sym c.fresh.ensures ∙ c.if-not-fresh.false in
+    (search rules, below_more _ _ c.loop-j.invariant.1 (now_right, now_fresh))
 
 pub returns : goal.returns
 returns c =

@@ -21,15 +21,15 @@ use Rattle.refusals.proofs.converters.record_right.Goals.{After-node_right, Afte
 by_value : (c : After-node_right) → c.node_right.result ≡ node_right c.args.n (node_of (record_at c.args.s.now c.args.at))
 by_value c = c.node_right.ensures ∙ ap (λ r. node_right c.args.n (node_of r)) c.read_record-r.ensures
 
-count-read : (c : After-read_record-r) → c.read_record-r.result.count ≡ byte c.args.s.now (c.args.at + edge_count_at)
+count_read : (c : After-read_record-r) → c.read_record-r.result.count ≡ byte c.args.s.now (c.args.at + edge_count_at)
 unfolding record_at
-count-read c = ap (λ r. r.count) c.read_record-r.ensures
+count_read c = ap (λ r. r.count) c.read_record-r.ensures
 
 -- the unused bytes by the count
-of-count : (s : List ℕ) (at n : ℕ) → n ≡ byte s (at + edge_count_at)
+of_count : (s : List ℕ) (at n : ℕ) → n ≡ byte s (at + edge_count_at)
     → all_zero (unused converter_record s at) ≡ (all_zero (place_gaps n s at) && all_zero (places_behind n transition_bytes s at))
 unfolding unused
-of-count s at n e = zeros_append _ _ ∙ sym (ap (λ m. all_zero (place_gaps m s at) && all_zero (places_behind m transition_bytes s at)) e)
+of_count s at n e = zeros_append _ _ ∙ sym (ap (λ m. all_zero (place_gaps m s at) && all_zero (places_behind m transition_bytes s at)) e)
 
 -- a record that is right by itself has at most eight transitions
 at_most : (c : Else-not-node_right) → c.read_record-r.result.count ≤ place_count
@@ -52,7 +52,7 @@ unfolding record_right
 returns-then-not-gaps_right c =
     let a = c.args in
     sym (and_false_right (node_right a.n (node_of (record_at a.s.now a.at))) (all_zero (unused converter_record a.s.now a.at))
-    (of-count a.s.now a.at _ (count-read (goal.at.returns-then-not-gaps_right c).After-read_record-r)
+    (of_count a.s.now a.at _ (count_read (goal.at.returns-then-not-gaps_right c).After-read_record-r)
     ∙ and_false (all_zero (place_gaps c.read_record-r.result.count a.s.now a.at)) _ (sym c.gaps_right.ensures ∙ c.if-not-gaps_right.true)))
 
 pub overflow_sub-count : goal.overflow_sub-count
@@ -69,5 +69,5 @@ returns c =
     c.is_zero.ensures
     ∙ sym
     (ap (λ b. b && all_zero (unused converter_record a.s.now a.at)) (sym (by_value (goal.at.returns c).After-node_right) ∙ c.if-not-node_right.false)
-    ∙ of-count a.s.now a.at n (count-read (goal.at.returns c).After-read_record-r)
+    ∙ of_count a.s.now a.at n (count_read (goal.at.returns c).After-read_record-r)
     ∙ ap (λ b. b && all_zero (places_behind n transition_bytes a.s.now a.at)) (sym c.gaps_right.ensures ∙ c.if-not-gaps_right.false))

@@ -27,8 +27,8 @@ state_count-n-requires c = (c.requires.0.whole, c.requires.1)
 pub loop-k-init : goal.loop-k-init
 loop-k-init c = (search rules, λ j h. absurd (not-suc-le-zero h))
 
-abbrev tested-side : At-loop-k → Side
-tested-side c = side (design c.args.s.now) c.args.i
+abbrev tested_side : At-loop-k → Side
+tested_side c = side (design c.args.s.now) c.args.i
 
 pub side_state-requires : goal.side_state-requires
 side_state-requires c =
@@ -59,7 +59,7 @@ tested c =
 pub returns-then-not-kind_right : goal.returns-then-not-kind_right
 unfolding kinds_right
 returns-then-not-kind_right c =
-    let S = tested-side (goal.at.returns-then-not-kind_right c).At-loop-k in
+    let S = tested_side (goal.at.returns-then-not-kind_right c).At-loop-k in
     let n = counted (goal.at.returns-then-not-kind_right c).After-state_count-n in
     sym
     (every_false (λ j. kind_right (state S j)) (length S) c.loop-k.k (omega arith)
@@ -71,6 +71,6 @@ loop-k-preserved c = (search rules, below_more _ _ c.loop-k.invariant.1 (sym (te
 pub returns : goal.returns
 unfolding kinds_right
 returns c =
-    let S = tested-side (goal.at.returns c).At-loop-k in
+    let S = tested_side (goal.at.returns c).At-loop-k in
     let n = counted (goal.at.returns c).After-state_count-n in
     sym (every_true (λ j. kind_right (state S j)) (length S) (λ j h. c.loop-k.invariant.1 j (omega arith)))

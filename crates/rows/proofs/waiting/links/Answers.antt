@@ -1,6 +1,4 @@
 -- `waiting::links` is safe and ends: there are as many turns as records.
-use Prim.Native.Nat.{◌-◌}
-use borrow.Author.Rules.{rules}
 use Rattle.rows.proofs.waiting.links.Goals as goal
 
 pub loop-i-init : goal.loop-i-init

@@ -1,5 +1,4 @@
 use Prim.Native.Nat.{◌-◌}
-use borrow.Author.Rules.{rules}
 use Rattle.rows.proofs.waiting.links.Given as goal
 
 abbrev pub invariant-loop-i : goal.invariant-loop-i

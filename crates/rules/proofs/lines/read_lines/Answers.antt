@@ -61,8 +61,8 @@ returns-in_default-token c =
     lined_broken c.loop-at.invariant.lined c.loop-at-test.true p.0 p.1 other
 
 -- the line ends behind it
-line-ends : (c : In-Line) → Stands c.args.text.now c.in-Read.part.next Line c.scan-found.result.next
-line-ends c =
+line_ends : (c : In-Line) → Stands c.args.text.now c.in-Read.part.next Line c.scan-found.result.next
+line_ends c =
     stands c.args.text.now c.in-Read.part.next c.scan-found.result Line (λ z. let y : ◌≡◌ {A = ℕ} 0 1 = cc in omega arith) c.scan-found.ensures
     c.in-Line.is
 
@@ -82,7 +82,7 @@ overflow_add-n c =
 pub loop-at-smaller : goal.loop-at-smaller
 loop-at-smaller c =
     let at = goal.at.loop-at-smaller c in
-    let w = line-ends at.In-Line in
+    let w = line_ends at.In-Line in
     let p = (part_read at.In-Read).0 in
     omega (arith, p.ahead, w.ahead, w.inside)
 
@@ -95,7 +95,7 @@ loop-at-preserved c =
       all_records = all_records at.After-read_implication;
       all_pending = all_pending at.After-read_implication;
       all_rules = c.put_rule.auto.rules ∙ i.all_rules;
-      lined = lined_more i.lined c.loop-at-test.true p.0 p.1 (line-ends at.In-Line) c.put_rule.ensures c.worse_of-grade.ensures;
+      lined = lined_more i.lined c.loop-at-test.true p.0 p.1 (line_ends at.In-Line) c.put_rule.ensures c.worse_of-grade.ensures;
     }
 
 pub returns : goal.returns

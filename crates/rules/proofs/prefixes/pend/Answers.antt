@@ -25,29 +25,29 @@ unchanged rs n =
     ap (front rs) z ∙ sym (append-nil (front rs n))
 
 module _ (h n : ℕ) (rs ps ps' : List ℕ) where
-  next-pended : Pushed ps h 7 0 ps' → Promised Next h n rs ps n rs ps'
-  next-pended p = (omega arith, record { made = λ m. unchanged rs n; kept = p.kept; pushed = λ l k. p.pushed l })
+  next_pended : Pushed ps h 7 0 ps' → Promised Next h n rs ps n rs ps'
+  next_pended p = (omega arith, record { made = λ m. unchanged rs n; kept = p.kept; pushed = λ l k. p.pushed l })
 
-  always-pended : Pushed ps h 9 0 ps' → Promised Always h n rs ps n rs ps'
-  always-pended p = (omega arith, record { made = λ m. unchanged rs n; kept = p.kept; pushed = λ l k. p.pushed l })
+  always_pended : Pushed ps h 9 0 ps' → Promised Always h n rs ps n rs ps'
+  always_pended p = (omega arith, record { made = λ m. unchanged rs n; kept = p.kept; pushed = λ l k. p.pushed l })
 
 -- AF's TRUE does
-eventually-pended : (h n : ℕ) (rs ps rs' ps' : List ℕ) → Added rs n (1 ∷ 0 ∷ 0 ∷ 0 ∷ []) rs' → Pushed ps h 8 (n % 256) ps' → Promised Eventually h n rs ps (n + 1) rs' ps'
-eventually-pended h n rs ps rs' ps' a p =
+eventually_pended : (h n : ℕ) (rs ps rs' ps' : List ℕ) → Added rs n (1 ∷ 0 ∷ 0 ∷ 0 ∷ []) rs' → Pushed ps h 8 (n % 256) ps' → Promised Eventually h n rs ps (n + 1) rs' ps'
+eventually_pended h n rs ps rs' ps' a p =
     (refl, record { made = λ m. a (omega arith); kept = p.kept; pushed = λ l k. p.pushed l ∙ ap (λ (x : ℕ). record { kind = 8; a = x }) (mod-eq_of_lt (omega arith)) })
 
 pub returns-in-Next : goal.returns-in-Next
 returns-in-Next c =
     let a = c.args in
-    told_of c.in-Next.is (next-pended a.height a.count a.records.now a.pending.now c.push.new.pending c.push.ensures)
+    told_of c.in-Next.is (next_pended a.height a.count a.records.now a.pending.now c.push.new.pending c.push.ensures)
 
 pub returns-in-Always : goal.returns-in-Always
 returns-in-Always c =
     let a = c.args in
-    told_of c.in-Always.is (always-pended a.height a.count a.records.now a.pending.now c.push-in-Always.new.pending c.push-in-Always.ensures)
+    told_of c.in-Always.is (always_pended a.height a.count a.records.now a.pending.now c.push-in-Always.new.pending c.push-in-Always.ensures)
 
 pub returns-in-Eventually : goal.returns-in-Eventually
 returns-in-Eventually c =
     let a = c.args in
     told_of c.in-Eventually.is
-    (eventually-pended a.height a.count a.records.now a.pending.now c.add.new.records c.push-in-Eventually.new.pending c.add.ensures c.push-in-Eventually.ensures)
+    (eventually_pended a.height a.count a.records.now a.pending.now c.add.new.records c.push-in-Eventually.new.pending c.add.ensures c.push-in-Eventually.ensures)

@@ -25,9 +25,9 @@ turned_on {rs = rs} {to = to} {i = i} v e l t =
           t.same m ∙ ap (turned_from rs i) n ∙ ap (λ (k : ℕ). turned_from (set rs (4 * i) k) (i + 1) (to - (i + 1))) (sym e);
     }
 
-turned-all : {rs₀ rs : List ℕ} {from to end i : ℕ} → end ≤ i → Turning rs₀ from to end rs i → to ≤ most_formulas → rs ≡ turned_from rs₀ from (to - from)
+turned_all : {rs₀ rs : List ℕ} {from to end i : ℕ} → end ≤ i → Turning rs₀ from to end rs i → to ≤ most_formulas → rs ≡ turned_from rs₀ from (to - from)
 unfolding turned_from
-turned-all {rs = rs} {to = to} {i = i} l t m =
+turned_all {rs = rs} {to = to} {i = i} l t m =
     let w = t.whole m in
     let n : to - i ≡ 0 = omega arith in
     sym (t.same m ∙ ap (turned_from rs i) n)
@@ -42,4 +42,4 @@ loop-i-preserved c =
     turned_on c.opposite.result c.opposite.ensures (omega arith) c.loop-i.invariant
 
 pub returns : goal.returns
-returns c = turned-all c.loop-i-test.false c.loop-i.invariant
+returns c = turned_all c.loop-i-test.false c.loop-i.invariant
