@@ -1,5 +1,7 @@
 // Runs the rows of the specification on the search. For each it writes a line: what was searched, and 0 for a converter found or the number of the refusal; then
 // the positions of the design, and what the judge says of the converter found.
+#![tactic(auto)]
+
 ghost use Rattle.std.specs.Prelude.{◌*◌, ◌≤◌, length};
 ghost use Rattle.layout.specs.Sizes.{formula_bytes, most_formulas, most_rules};
 
