@@ -1,4 +1,6 @@
 // Reads a design from standard input and writes the blocks of a converter for it to standard output; or one line, the word "refused" and the number.
+#![tactic(auto)]
+
 ghost use Rattle.std.specs.Prelude.{◌*◌, ◌≤◌, length};
 ghost use Rattle.layout.specs.Sizes.{block_bytes};
 ghost use Rattle.layout.specs.Converters.{records};

@@ -1,0 +1,23 @@
+-- `answer` is safe and ends: 1,152 records fill 128 blocks at most.
+use Prim.Native.Nat.{◌*◌, ◌≤◌}
+use native.Mathlib.Omega.{arith}
+use lib.ListN.{length, length-take}
+use borrow.Author.Rules.{rules}
+use Rattle.convert.proofs.Converting.{blocks_fit}
+use Rattle.convert.proofs.answer.Goals as goal
+use Rattle.convert.proofs.answer.Goals.{In-Blocks}
+
+-- the blocks to write are those of the array
+fits : (c : In-Blocks) → 512 * c.in-Blocks.n ≤ length c.convert-written.new.blocks
+fits c =
+    let b = blocks_fit _ _ _ _ _ _ (search rules) (search rules) _ c.in-Blocks.n c.convert-written.result c.convert-written.ensures c.in-Blocks.is in
+    omega (arith, b)
+
+pub overflow_mul-size : goal.overflow_mul-size
+overflow_mul-size c = record { fits = omega (arith, fits (goal.at.overflow_mul-size c).In-Blocks) }
+
+pub slice_bounds-blocks-end : goal.slice_bounds-blocks-end
+slice_bounds-blocks-end c = fits (goal.at.slice_bounds-blocks-end c).In-Blocks
+
+pub slice_bounds-write_all-end : goal.slice_bounds-write_all-end
+slice_bounds-write_all-end c = simp length-take (omega (arith, fits (goal.at.slice_bounds-write_all-end c).In-Blocks))
