@@ -1,3 +1,4 @@
+-- `records::formulas` meets its contract: i is at most n.
 use Prim.Native.Nat.{◌-◌, ◌≤◌}
 use Rattle.text_rows.proofs.records.formulas.Given as goal
 

@@ -1,3 +1,4 @@
+-- `records::rules` meets its contract: i is at most n.
 use Prim.Native.Nat.{◌-◌, ◌≤◌}
 use Rattle.text_rows.proofs.records.rules.Given as goal
 
