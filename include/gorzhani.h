@@ -1,7 +1,8 @@
 /* Gorzhani: converters between the tables of a kernel, a host and a third side, searched, judged and run. The functions are proved in Rattle for every input.
  *
- * The machine: x86-64 Linux, with the System V C calling convention. The archive needs memcpy and memset, from the C library or of one's own, and
- * nothing else. It allocates nothing, asks nothing of the system and keeps nothing from call to call: calls on other buffers may run at the same time.
+ * The machine: x86-64 Linux, on a processor with SSE4.2 and popcnt (x86-64-v2), with the System V C calling convention. The archive needs memcpy and memset,
+ * from the C library or of one's own, and nothing else. It allocates nothing, asks nothing of the system and keeps nothing from call to call: calls on other
+ * buffers may run at the same time.
  *
  * What the caller owes, and C cannot state:
  * - each pointer is valid for its length, that to a rule for one byte, and not null, also where the length is 0;

@@ -6,7 +6,7 @@ use lib.ListN.{get_or-eq_default}
 use Rattle.model.specs.Events.{InRange}
 use Rattle.model.specs.Sides.{Move, State, no_move}
 use Rattle.model.specs.Judged.{all}
-use Rattle.model.proofs.Lists.{getD_in}
+use Rattle.model.proofs.Lists.{get_or_in}
 use Rattle.layout.specs.Sizes.{place_count, state_bytes, count_at, gap_at, places_at, move_bytes}
 use Rattle.layout.specs.Tables.{table}
 use Rattle.layout.specs.Bytes.{byte, word, part, all_zero, event_of, event_byte, word_bytes}
@@ -110,7 +110,7 @@ read_state_to q bs at few ranged here =
     each : (k : ℕ) → k < length q.moves → f k ≡ get_or q.moves k no_move
     each k h =
         ap move_of (entry (place_at bs at) no_place place_count k (omega arith))
-        ∙ place_back q bs at here k (omega arith) (ranged (get_or q.moves k no_move) (getD_in q.moves k no_move h))
+        ∙ place_back q bs at here k (omega arith) (ranged (get_or q.moves k no_move) (get_or_in q.moves k no_move h))
 
     moves : table (byte bs (at + count_at)) f ≡ q.moves
     moves =

@@ -6,7 +6,7 @@ use lib.Dec.{not_T}
 use lib.ListN.{length-map, get_or-map}
 use Rattle.model.specs.Judged.{all}
 use Rattle.model.proofs.Bools.{T_true, T_false, and_both, both_and}
-use Rattle.model.proofs.Lists.{all_in, in_all, getD_in, index_in}
+use Rattle.model.proofs.Lists.{all_in, in_all, get_or_in, index_in}
 use Rattle.layout.specs.Tables.{table, table_from, every, distinct}
 
 -- ---- tests as equations, which is how code tells them
@@ -65,10 +65,10 @@ module _ {A : Type 0} (p : A → Bool) (d : A) where
       T_true (all p l) (in_all p l (λ a i. let w = index_in d i in true_T (p a) (ap p (sym w.2) ∙ f w.0 w.1)))
 
   pub all_false : (l : List A) (k : ℕ) → k < length l → p (get_or l k d) ≡ false → all p l ≡ false
-  all_false l k h e = T_false (all p l) (λ t. false_T (p (get_or l k d)) e (all_in p (getD_in l k d h) t))
+  all_false l k h e = T_false (all p l) (λ t. false_T (p (get_or l k d)) e (all_in p (get_or_in l k d h) t))
 
   pub all_at : (l : List A) → all p l ≡ true → (k : ℕ) → k < length l → p (get_or l k d) ≡ true
-  all_at l e k h = T_true (p (get_or l k d)) (all_in p (getD_in l k d h) (true_T (all p l) e))
+  all_at l e k h = T_true (p (get_or l k d)) (all_in p (get_or_in l k d h) (true_T (all p l) e))
 
 -- ---- no two the same, by a test that is symmetric
 module _ (same : ℕ → ℕ → Bool) (swap : (j k : ℕ) → T (same j k) → T (same k j)) where

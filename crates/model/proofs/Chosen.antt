@@ -16,7 +16,7 @@ use Rattle.model.specs.Converters.{Node, no_edge, edge, side_events, one_each, O
 use Rattle.model.specs.Lines.{nil, cons, MoveOfEach, Does, AsChosen, ExactlyOne, OneForEach, OfKinds}
 use Rattle.model.proofs.Bools.{T_true}
 use Rattle.model.proofs.StateKinds.{kind_only, sends_in, ticks_in, pair, show_known, one_shown}
-use Rattle.model.proofs.Lists.{getD_in}
+use Rattle.model.proofs.Lists.{get_or_in}
 use Rattle.model.proofs.NoneInput.{Follows}
 use Rattle.model.proofs.Plain.{Moves, side_by_side}
 
@@ -162,7 +162,7 @@ module _ (Ss : List Side) (n : Node) (ks : List Kind) (kinds : OfKinds Ss n.name
       → OneShowing n (shows (events ms)) ↔ ExactlyOne n (AsChosen ks bs)
   shows_or_chose ms i bs l c =
       exactly_one_same n (λ es. shows es ≡ shows (events ms)) (AsChosen ks bs) (λ j h.
-      let f = follows (edge n j) (getD_in n.edges j no_edge h) in
+      let f = follows (edge n j) (get_or_in n.edges j no_edge h) in
       let w = of_joint Ss n.names (side_events (edge n j)) f.0 f.1 in
       rw w.2 (shows_chosen kinds i w.1 bs l c))
 

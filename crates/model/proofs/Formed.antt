@@ -17,7 +17,7 @@ use Rattle.model.specs.Designs.{Design, WellFormed}
 use Rattle.model.specs.Positions.{any}
 use Rattle.model.specs.Judged.{all}
 use Rattle.model.proofs.Bools.{and_both, both_and, or_either}
-use Rattle.model.proofs.Lists.{all_in, in_any, getD_in}
+use Rattle.model.proofs.Lists.{all_in, in_any, get_or_in}
 use Rattle.model.proofs.Count.{below_suc}
 use Rattle.model.proofs.StateKinds.{sent_any}
 use Rattle.model.proofs.SameEvent.{same_event_refl, sent_and_tick}
@@ -110,7 +110,7 @@ unfolding distinct?
 first_alone m ms t k h e =
     let same : Move → Bool = λ w. same_event m.event w.event in
     let w = and_both (not (any same ms)) (distinct? ms) t in
-    T_not (any same ms) w.0 (in_any same (getD_in ms k no_move h) (subst (λ (x : Event). T (same_event m.event x)) e (same_event_refl m.event)))
+    T_not (any same ms) w.0 (in_any same (get_or_in ms k no_move h) (subst (λ (x : Event). T (same_event m.event x)) e (same_event_refl m.event)))
 
 -- no event twice, by index
 distinct_once : (ms : List Move) → T (distinct? ms) → (j k : ℕ) → j < length ms → k < length ms → (get_or ms j no_move).event ≡ (get_or ms k no_move).event → j ≡ k

@@ -57,10 +57,10 @@ module _ {A : Type 0} (p : A → Bool) where
   in_any (there {x = x} {xs = xs} i) h = or_right (p x) (any p xs) (in_any i h)
 
 -- ---- members and indices
-pub getD_in : {A : Type 0} (l : List A) (j : ℕ) (d : A) → j < length l → In (get_or l j d) l
-getD_in [] j d h = absurd (not-suc-le-zero h)
-getD_in (x ∷ xs) zero d h = here refl
-getD_in (x ∷ xs) (suc j) d h = there (getD_in xs j d (omega arith))
+pub get_or_in : {A : Type 0} (l : List A) (j : ℕ) (d : A) → j < length l → In (get_or l j d) l
+get_or_in [] j d h = absurd (not-suc-le-zero h)
+get_or_in (x ∷ xs) zero d h = here refl
+get_or_in (x ∷ xs) (suc j) d h = there (get_or_in xs j d (omega arith))
 
 pub index_in : {A : Type 0} (d : A) {a : A} {l : List A} → In a l → (j : ℕ) × (j < length l) × (get_or l j d ≡ a)
 index_in d (here e) = (0, omega arith, sym e)
@@ -87,10 +87,10 @@ of_map {A} {B} f b (x ∷ xs) i =
     (in-cases i)
 
 -- an element of the image
-pub get_d_map : {A B : Type 0} (f : A → B) (l : List A) (j : ℕ) (d : A) (e : B) → j < length l → get_or (map f l) j e ≡ f (get_or l j d)
-get_d_map f [] j d e h = absurd (not-suc-le-zero h)
-get_d_map f (x ∷ xs) zero d e h = refl
-get_d_map f (x ∷ xs) (suc j) d e h = get_d_map f xs j d e (omega arith)
+pub get_or_map : {A B : Type 0} (f : A → B) (l : List A) (j : ℕ) (d : A) (e : B) → j < length l → get_or (map f l) j e ≡ f (get_or l j d)
+get_or_map f [] j d e h = absurd (not-suc-le-zero h)
+get_or_map f (x ∷ xs) zero d e h = refl
+get_or_map f (x ∷ xs) (suc j) d e h = get_or_map f xs j d e (omega arith)
 
 -- a list is an image where each member is one
 pub all_images : {A B : Type 0} (f : A → B) (l : List B) → ((b : B) → In b l → (a : A) × (b ≡ f a)) → (k : List A) × (l ≡ map f k)

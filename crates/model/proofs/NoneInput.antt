@@ -14,7 +14,7 @@ use Rattle.model.specs.Sides.{Side, Kind, input, output_only, delayed}
 use Rattle.model.specs.Joined.{Names, kinds_of, JointMove}
 use Rattle.model.specs.Converters.{Edge, Node, no_edge, edge, side_events, every, one_each, some, any_input, any_delayed, duty, Fulfils}
 use Rattle.model.proofs.Bools.{T-dec, T_true, T_false}
-use Rattle.model.proofs.Lists.{getD_in}
+use Rattle.model.proofs.Lists.{get_or_in}
 use Rattle.model.proofs.Joint.{AllRegular, duals_duals, some_joint, by_shows, same_shows}
 use Rattle.model.proofs.Alone.{DutyOf, is_every, is_one_each, is_some, duty_of}
 
@@ -54,7 +54,7 @@ module _ (Ss : List Side) (reg : AllRegular Ss) (n : Node) (hs : Names Ss n.name
     told : (j : ℕ) → j < length n.edges → (es : List Event) (ts : List ℕ) → JointMove Ss n.names es ts
         → shows (side_events (edge n j)) ≡ shows es → side_events (edge n j) ≡ es
     told j h es ts a g =
-        let w = follows (edge n j) (getD_in n.edges j no_edge h) in
+        let w = follows (edge n j) (get_or_in n.edges j no_edge h) in
         by_shows Ss reg n.names hs no_input (side_events (edge n j)) es w.0 ts w.1 a g
 
     every_one_each : Fulfils every Ss n ↔ Fulfils one_each Ss n
@@ -79,7 +79,7 @@ module _ (Ss : List Side) (reg : AllRegular Ss) (n : Node) (hs : Names Ss n.name
           let h : w.0 < length n.edges = w.1 in
           omega arith),
       (λ h es ts a.
-          let w = follows (edge n 0) (getD_in n.edges 0 no_edge h) in
+          let w = follows (edge n 0) (get_or_in n.edges 0 no_edge h) in
           (0, h, told 0 h es ts a (same_shows Ss reg n.names hs no_delayed (side_events (edge n 0)) es w.0 ts w.1 a))),
     )
 

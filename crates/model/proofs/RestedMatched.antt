@@ -10,7 +10,7 @@ use Rattle.model.specs.Sides.{Side, input}
 use Rattle.model.specs.Joined.{Names, zeros, kinds_of, JointMove}
 use Rattle.model.specs.Converters.{Edge, Node, Converter, no_edge, no_node, node, edge, side_events, Duty, every, one_each, some, duty, Enabled, OneShowing, Fulfils, Obeys, Matched}
 use Rattle.model.specs.Resting.{with_resting, with_tick, rested_edge, rested_node, rested}
-use Rattle.model.proofs.Lists.{index_in, of_map, in_map, first_in, get_d_map, all_images}
+use Rattle.model.proofs.Lists.{index_in, of_map, in_map, first_in, get_or_map, all_images}
 use Rattle.model.proofs.Joint.{AllRegular, duals_duals}
 use Rattle.model.proofs.NoneInput.{Follows, Once, input_more}
 use Rattle.model.proofs.Resting.{zero_off, tick_off, zeros_rested, names_rested, joint_rested, rested_joint, of_joint_rested, every_joint_rested, duals_rested, shows_rested, kinds_rested}
@@ -27,7 +27,7 @@ module _ (n : Node) where
   -- of one transition, its events, what it carries for the sides and what they show under it
   module _ (j : ℕ) (h : j < length n.edges) where
     edge_rested : edge (rested_node n) j ≡ rested_edge (edge n j)
-    edge_rested = get_d_map rested_edge n.edges j no_edge no_edge h
+    edge_rested = get_or_map rested_edge n.edges j no_edge no_edge h
 
     events_at : (es : List Event) → ((edge n j).events ≡ es) ↔ ((edge (rested_node n) j).events ≡ with_tick es)
     events_at es = with_tick_too (edge n j).events es (edge (rested_node n) j).events (rw edge_rested)
@@ -81,7 +81,7 @@ module _ (Ss : List Side) (reg : AllRegular Ss) (C : Converter) where
   size = length-map C rested_node
 
   node_rested : (c : ℕ) → c < length C → node (rested C) c ≡ rested_node (node C c)
-  node_rested c h = get_d_map rested_node C c no_node no_node h
+  node_rested c h = get_or_map rested_node C c no_node no_node h
 
   module _ (n : Node) where
     -- a transition leads where it led

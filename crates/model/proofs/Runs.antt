@@ -13,7 +13,7 @@ use Rattle.model.specs.Joined.{zeros}
 use Rattle.model.specs.Converters.{Edge, Converter, no_edge, node, edge, side_events, Matched}
 use Rattle.model.specs.Designs.{Design, WellFormed}
 use Rattle.model.specs.Runs.{Runner, done, refused, Ticked, taken, ticked, Call, tick_call, Running, called, moved, plain, AllAllow, AllDelivered, InStep, CallRight, RunRight}
-use Rattle.model.proofs.Lists.{getD_in, index_in}
+use Rattle.model.proofs.Lists.{get_or_in, index_in}
 use Rattle.model.proofs.Joint.{AllRegular, all_regular}
 use Rattle.model.proofs.Alone.{answers}
 use Rattle.model.proofs.Fits.{Found, found, none_fits, find}
@@ -43,7 +43,7 @@ module _ (Ss : List Side) (reg : AllRegular Ss) (C : Converter) (m : Matched Ss 
       let n = node C r.at in
       let e = edge n k in
       let ob = m.each r.at h in
-      let w = ob.follows e (getD_in n.edges k no_edge lt) in
+      let w = ob.follows e (get_or_in n.edges k no_edge lt) in
       let j = side_by_side Ss n.names (side_events e) (node C e.next).names w.1 in
       inl (subst⁻¹ (λ (o : Option Edge). Done Ss C n.names xs (taken r o)) p (record {
         answered = refl;

@@ -8,7 +8,7 @@ use lib.Dec.{T, leb, leb→le}
 use lib.ListN.{length}
 use Rattle.model.specs.Judged.{all}
 use Rattle.model.proofs.Bools.{and_both}
-use Rattle.model.proofs.Lists.{all_in, getD_in}
+use Rattle.model.proofs.Lists.{all_in, get_or_in}
 use Rattle.layout.specs.Sizes.{side_count, other_blocks, most_states}
 use Rattle.layout.specs.Blocks.{Block, kernel, formulas, rules, design_blocks, record_count}
 use Rattle.layout.specs.Designs.{held, Whole, side_block, design, side}
@@ -35,7 +35,7 @@ module _ (bs : List ℕ) (counts : T (all (count_right bs) (design_blocks (held 
       let b = block (held bs) i in
       let n = record_count bs b in
       let there : i < length (design_blocks (held bs)) = omega (arith, blocks_long (held bs) whole.at_most) in
-      let w = and_both (leb b.least n) (leb n b.most) (all_in (count_right bs) (getD_in (design_blocks (held bs)) i kernel there) counts) in
+      let w = and_both (leb b.least n) (leb n b.most) (all_in (count_right bs) (get_or_in (design_blocks (held bs)) i kernel there) counts) in
       (leb→le b.least n w.0, leb→le n b.most w.1)
 
   formulas_within : Within (formulas (held bs))

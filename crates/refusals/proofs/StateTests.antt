@@ -10,7 +10,7 @@ use lib.ListN.{length, get_or}
 use Rattle.model.specs.Events.{Event, tick, sent, same_event}
 use Rattle.model.specs.Sides.{Move, State, Side, state, no_move, any_sent, Kind, input, output_only, delayed, IsInput, IsOutputOnly, IsDelayed, IsKind, WellFormedState, HasKind}
 use Rattle.model.proofs.Bools.{and_both, both_and, or_either, or_left, or_right}
-use Rattle.model.proofs.Lists.{getD_in, index_in}
+use Rattle.model.proofs.Lists.{get_or_in, index_in}
 use Rattle.model.proofs.SameEvent.{same_event_eq, same_event_refl, sent_and_tick}
 use Rattle.model.proofs.StateKinds.{sent_any, any_unsent}
 use Rattle.layout.specs.Sizes.{place_count}
@@ -35,7 +35,7 @@ module _ (n : ℕ) (q : State) where
   of_moves p t m i = let w = index_in no_move i in subst (λ (x : Move). T (p x)) w.2 (every_each (λ k. p (move q k)) (length q.moves) t w.0 w.1)
 
   to_moves : (p : Move → Bool) → ((m : Move) → In m q.moves → T (p m)) → T (every (length q.moves) (λ k. p (move q k)))
-  to_moves p f = each_every (λ k. p (move q k)) (length q.moves) (λ k h. f (move q k) (getD_in q.moves k no_move h))
+  to_moves p f = each_every (λ k. p (move q k)) (length q.moves) (λ k h. f (move q k) (get_or_in q.moves k no_move h))
 
   state_forms : T (state_right n q) → WellFormedState n q
   unfolding state_right

@@ -13,7 +13,7 @@ use Rattle.model.specs.Formulas.{Lower, Propositions}
 use Rattle.model.specs.Designs.{WellFormed}
 use Rattle.model.specs.Judged.{all}
 use Rattle.model.proofs.Bools.{T_true, and_both, both_and}
-use Rattle.model.proofs.Lists.{all_in, in_all, getD_in, index_in}
+use Rattle.model.proofs.Lists.{all_in, in_all, get_or_in, index_in}
 use Rattle.layout.specs.Sizes.{side_count, place_count}
 use Rattle.layout.specs.Blocks.{design_blocks}
 use Rattle.layout.specs.Designs.{held, Whole, design, side, stored_state}
@@ -141,7 +141,7 @@ accepted_counts bs e = let p = passed bs e in counted bs p.counts p.whole
 
 -- side i, and the count of a state of its
 pub side_formed : (bs : List ℕ) → design_refusal bs ≡ 0 → (i : ℕ) → i < side_count → WellFormedSide (side (design bs) i)
-side_formed bs d i h = (well_formed bs d).each_side (side (design bs) i) (getD_in (design bs).sides i [] (omega (arith, sides_length bs)))
+side_formed bs d i h = (well_formed bs d).each_side (side (design bs) i) (get_or_in (design bs).sides i [] (omega (arith, sides_length bs)))
 
 pub state_small : (bs : List ℕ) → design_refusal bs ≡ 0 → (i k : ℕ) → i < side_count → k < length (side (design bs) i) → (stored_state bs i k).count ≤ place_count
 state_small bs d i k h l =

@@ -8,7 +8,7 @@ use native.Mathlib.Omega.{arith}
 use lib.ListN.{length, get_or, length-map}
 use Rattle.model.specs.Actl.{Actl, falsum, System, Holds}
 use Rattle.model.specs.Formulas.{formula}
-use Rattle.model.proofs.Lists.{getD_in, get_d_map, of_map}
+use Rattle.model.proofs.Lists.{get_or_in, get_or_map, of_map}
 use Rattle.layout.specs.Sizes.{side_count, least_sides, most_formulas, most_rules, block_bytes}
 use Rattle.layout.specs.Designs.{design}
 use Rattle.refusals.specs.Refusals.{design_refusal}
@@ -44,7 +44,7 @@ module _ (ss : List ℕ) (n : ℕ) (long : length ss ≡ block_bytes * n) (fs : 
   rule_is i h =
       ap₂ (λ forms numbers. formula forms (get_or numbers i 0)) (forms_are ss n long given few_forms few) (rules_are ss n long given few_forms few)
       ∙ rules_expanded given i (omega (arith, length-map fs formula_for))
-      ∙ get_d_map formula_for fs i (constant false) falsum h
+      ∙ get_or_map formula_for fs i (constant false) falsum h
 
   -- so it holds where that line is true
   pub ruled : ((f : Typed) → In f fs → universal f ≡ true) → (i : ℕ) → i < length fs → (M : System) (s : M.State)
@@ -52,7 +52,7 @@ module _ (ss : List ℕ) (n : ℕ) (long : length ss ≡ block_bytes * n) (fs : 
       ↔ Means M (get_or fs i (constant false)) s
   ruled u i h M s =
       let f = get_or fs i (constant false) in
-      subst⁻¹ (λ (a : Actl). Holds M a s ↔ Means M f s) (rule_is i h) (meant M f (u f (getD_in fs i (constant false) h)) s)
+      subst⁻¹ (λ (a : Actl). Holds M a s ↔ Means M f s) (rule_is i h) (meant M f (u f (get_or_in fs i (constant false) h)) s)
 
   -- there is a rule for each line, and no other
   pub as_many : length (design (ss ++ rule_blocks (map formula_for fs))).rules ≡ length fs

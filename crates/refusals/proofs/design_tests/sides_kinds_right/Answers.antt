@@ -9,7 +9,7 @@ use lib.ListN.{length}
 use Rattle.layout.specs.Designs.{design}
 use Rattle.layout.specs.Tests.{side_right, kinds_right}
 use Rattle.layout.proofs.DesignBytes.{sides_length}
-use Rattle.model.proofs.Lists.{all_in, getD_in}
+use Rattle.model.proofs.Lists.{all_in, get_or_in}
 use Rattle.layout.proofs.Tables.{all_true, all_false}
 use borrow.Author.Rules.{rules}
 use Rattle.refusals.proofs.design_tests.sides_kinds_right.Goals as goal
@@ -21,7 +21,7 @@ pub side_kinds_right-requires : goal.side_kinds_right-requires
 side_kinds_right-requires c =
     let D = design c.args.s.now in
     let there : c.loop-i.i < length (design c.args.s.now).sides = omega (arith, sides_length c.args.s.now) in
-    (c.requires.0, omega arith, all_in side_right (getD_in D.sides c.loop-i.i [] there) c.requires.1)
+    (c.requires.0, omega arith, all_in side_right (get_or_in D.sides c.loop-i.i [] there) c.requires.1)
 
 pub returns-then-not-side_kinds_right : goal.returns-then-not-side_kinds_right
 returns-then-not-side_kinds_right c =
