@@ -1,7 +1,7 @@
--- What a number means to a caller in C, for every input and from the call's promise alone (`Calls`): when the judge's is 0, -14 or -15, and what its list then has; when the quick verdict's is, which rule it then
--- blames, and that it is the judge's number; when the search's is -16,
--- and what stands in the table where it is a count; when the tick's is 0; when the writer's, the block reader's and that of `gorzhani_positions` are counts; when that of
--- `gorzhani_ranges` is 0, and what then stands at the front of the result; when that of `gorzhani_rules` is a count, and what its blocks then say; and how much a search is lent that no refusal comes before its decision.
+-- What a number means to a caller in C, for every input and from the call's promise alone (`Calls`): when the judge's is 0, -14 or -15, and what its list then has; when the quick
+-- verdict's is, which rule it then blames, and that it is the judge's number; when the search's is -16, and what stands in the table where it is a count; when the tick's is 0; when the
+-- writer's, the block reader's and that of `gorzhani_positions` are counts; when that of `gorzhani_ranges` is 0, and what then stands at the front of the result; when that of
+-- `gorzhani_rules` is a count, and what its blocks then say; and how much a search is lent that no refusal comes before its decision.
 use mathlib.Core.Path.{◌≡◌, refl, sym, ap, ◌∙◌}
 use mathlib.Core.Bool.{false}
 use mathlib.Core.List.{List, ◌++◌}

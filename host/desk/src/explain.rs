@@ -15,7 +15,7 @@ mod labels;
 mod paths;
 mod words;
 
-use gorzhani::Verdict;
+use gorzhani::Refused;
 
 use crate::design::Design;
 use crate::library;
@@ -26,12 +26,13 @@ pub use asked::holds_at;
 /// What is printed in the place of a claim to which the library says otherwise.
 pub const UNCONFIRMED: &str = "the library doesn't confirm this: please report it";
 
-/// The first rule that fails, counted from 0, by the library's verdict.
+/// The first rule that fails, counted from 0: each is put to the library's judge alone.
 pub fn first_failing(design: &Design, records: &[Record]) -> Option<usize> {
-    match library::verdict(&design.bytes(), records) {
-        Verdict::Fails(rule) => Some(usize::from(rule)),
-        Verdict::Yes | Verdict::Refused(_) => None,
-    }
+    let fails = |formula: usize| {
+        let alone = design.with_rules(&[formula]);
+        alone.and_then(|bytes| library::judge(&bytes, records)) == Err(Refused::RULE)
+    };
+    design.rules.iter().position(|rule| fails(rule.formula))
 }
 
 /// That a rule fails, counted from 0, and the run that breaks it.

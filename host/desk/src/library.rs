@@ -1,8 +1,6 @@
 //! The calls of the proved library, each lent as much memory as it asks for.
 
-use gorzhani::{
-    Refused, Verdict, BLOCK, BLOCK_RECORDS, CELL, MOST_RULES, NO_WAIT, RECORD, RULE_BLOCKS,
-};
+use gorzhani::{Refused, BLOCK, BLOCK_RECORDS, CELL, MOST_RULES, NO_WAIT, RECORD, RULE_BLOCKS};
 
 use crate::records::{from_bytes, to_bytes, Record};
 
@@ -22,11 +20,6 @@ pub fn judge(design: &[u8], records: &[Record]) -> Result<Vec<u32>, Refused> {
     // What has a yes is a design, and its last block counts the rules.
     waits.truncate(usize::from(design[design.len() - BLOCK + 1]));
     Ok(waits)
-}
-
-/// Yes or no to a converter, and which rule fails first.
-pub fn verdict(design: &[u8], records: &[Record]) -> Verdict {
-    gorzhani::verdict(design, &to_bytes(records), &mut vec![0; CELL * records.len()])
 }
 
 /// The blocks of a converter file.

@@ -281,7 +281,7 @@ fn judge(call: &Call, colours: bool) -> Result<Answer, String> {
         Err(Refused::RULE) => {
             out += &match explain::first_failing(&desk.design, &records) {
                 Some(rule) => format!("\n{}", explain::rule_fails(&desk.design, &records, rule)),
-                None => format!("\nNo rule is found that fails: {}\n", explain::UNCONFIRMED),
+                None => format!("\nNo rule fails alone: {}\n", explain::UNCONFIRMED),
             };
             NO
         }
