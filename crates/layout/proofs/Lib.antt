@@ -1,5 +1,7 @@
 -- Laws of bytes and of the records by value, which proofs of functions here and above cite.
 pub mod Tables
+pub mod ListTests
+pub mod Arrays
 pub mod DesignBytes
 pub mod Parts
 pub mod Pieces

@@ -1,11 +1,15 @@
 -- Parts of a list of bytes (`part`), by one byte more, by index and within another, and what is added up over one.
-use Rattle.std.proofs.Common.{◌≡◌, ℕ, ◌+◌, ◌%◌, ◌<◌, ◌≤◌, true, false, eqb, List, [], ◌∷◌, ◌++◌, length, take, drop, sym, ap, ◌∙◌, add_assoc, add-one, arith, length-drop, length-take-le, get_or-drop, get_or-take, take-suc, ext_get_or, eq-eqb, ne_eqb, eqb-true}
+use Rattle.std.proofs.Common.{◌≡◌, ℕ, ◌+◌, ◌-◌, ◌%◌, ◌<◌, ◌≤◌, true, false, eqb, List, [], ◌∷◌, ◌++◌, length, take, drop, sym, ap, ◌∙◌, add_assoc, add-one, arith, length-drop, length-take-le, get_or-drop, get_or-take, take-suc, ext_get_or, eq-eqb, ne_eqb, eqb-true}
 use Rattle.layout.specs.Bytes.{byte, part, all_zero, sum, check}
 use Rattle.layout.proofs.Tables.{all_true, all_false, all_at}
 
 module _ (bs : List ℕ) (at : ℕ) where
   pub length_part : (n : ℕ) → at + n ≤ length bs → length (part bs at n) ≡ n
   length_part n h = length-take-le n (drop at bs) (omega (arith, length-drop at bs))
+
+  -- as the range `at..at + n` reads it
+  pub part_range : (n : ℕ) → take (at + n - at) (drop at bs) ≡ part bs at n
+  part_range n = ap (λ k. take k (drop at bs)) (omega arith)
 
   pub byte_part : (n i : ℕ) → i < n → byte (part bs at n) i ≡ byte bs (at + i)
   byte_part n i h = get_or-take n (drop at bs) i 0 h ∙ get_or-drop at bs i 0
@@ -41,11 +45,9 @@ sum_more [] b = omega arith
 sum_more (x ∷ bs) b = ap (λ n. x + n) (sum_more bs b) ∙ sym (add_assoc x (sum bs) b)
 
 -- the check of one byte more
-pub check_more : (bs : List ℕ) (at i : ℕ) → at + i < length bs → (check (part bs at i) + byte bs (at + i)) % 65536 ≡ check (part bs at (i + 1))
+pub check_more : (bs : List ℕ) (b : ℕ) → (check bs + b) % 65536 ≡ check (bs ++ (b ∷ []))
 unfolding check
-check_more bs at i h =
-    let e : sum (part bs at (i + 1)) ≡ sum (part bs at i) + byte bs (at + i) = ap sum (part_more bs at i h) ∙ sum_more (part bs at i) (byte bs (at + i)) in
-    omega arith
+check_more bs b = omega (arith, sum_more bs b)
 
 -- ---- zeros
 module _ (bs : List ℕ) (at n : ℕ) (fits : at + n ≤ length bs) where

@@ -1,5 +1,6 @@
 -- Bytes put in the place of others (`put`): by single stores, one piece behind another, one over another, and read again.
 use Rattle.std.proofs.Common.{◌≡◌, ℕ, ◌+◌, ◌-◌, ◌<◌, ◌≤◌, List, [], ◌∷◌, ◌++◌, length, take, drop, set, replicate, sym, refl, ap, ◌∙◌, subst, ap₂, append_assoc, add_assoc, add-one, arith, length-append, length-take-le, drop-drop, take_at, drop_at}
+use borrow.Rule.Slice.PartMut.{put_mid}
 use lib.ListN.{length-replicate, replicate-append-replicate}
 use lib.Seq.{sets, sets-eq, length-sets, take-append-le, drop-append-le, take-append-add, drop-append-add}
 use Rattle.layout.specs.Tables.{table}
@@ -15,6 +16,13 @@ put_sets vs bs at h = sets-eq vs bs at h
 
 pub put_pair : (bs : List ℕ) (at x y : ℕ) → at + 2 ≤ length bs → set (set bs at x) (at + 1) y ≡ put bs at (x ∷ y ∷ [])
 put_pair bs at x y h = rw add-one (put_sets (x ∷ y ∷ []) bs at h)
+
+-- a part of the list, stored as a whole: `s[at..at + n]` held the bytes that are put
+pub put_stored : (bs : List ℕ) (at n : ℕ) (xs vs : List ℕ) → xs ≡ vs → length vs ≡ n → put_mid at (at + n - at) bs xs ≡ put bs at vs
+unfolding put
+put_stored bs at n xs vs e long =
+    let k : at + n - at ≡ length vs = omega arith in
+    rw (k, e) (ap (λ l. take at bs ++ (vs ++ l)) (drop-drop (length vs) at bs) ∙ sym (append_assoc (take at bs) vs (drop (at + length vs) bs)))
 
 -- nothing put
 pub put_nil : (bs : List ℕ) (at : ℕ) → at ≤ length bs → put bs at [] ≡ bs

@@ -1,5 +1,5 @@
 -- Signed bytes: what the machine's comparisons and differences of `i8` say of the numbers; and an event, read from its byte.
-use Rattle.std.proofs.Common.{◌≡◌, ℕ, zero, suc, ◌-◌, ◌<◌, ◌≤◌, Bool, true, false, cond, eqb, leb, ℤ, pos, negsuc, ◌-ℤ◌, neg_ℤ, nat_abs, sym, refl, ap, ◌∙◌, true≢false, arith, w8, SFits, to_z, of_z, ltb-false, ltb-true, le-ltb, lt-ltb, eq-eqb, ne_eqb, le-leb}
+use Rattle.std.proofs.Common.{◌≡◌, ℕ, zero, suc, ◌-◌, ◌<◌, ◌≤◌, Bool, true, false, cond, eqb, ltb, leb, ℤ, pos, negsuc, ◌-ℤ◌, neg_ℤ, nat_abs, sym, refl, ap, ◌∙◌, true≢false, arith, w8, SFits, to_z, of_z, ltb-false, ltb-true, le-ltb, lt-ltb, eq-eqb, ne_eqb, le-leb}
 use mathlib.Core.Bool.{false≢true}
 use native.Mathlib.Decide.{ℕ_discrete, dec_lt}
 use borrow.Author.Tests.{lt-leb}
@@ -62,6 +62,16 @@ same_bits (pos m) (negsuc n) f g = ne_eqb m (256 - suc n) (λ p. omega (arith, f
 same_bits (negsuc m) (pos n) f g = ne_eqb (256 - suc m) n (λ p. omega (arith, f.sfits, g.sfits))
 
 -- ---- an event and its byte
+-- they have the same bits
+pub signed_byte : (b : ℕ) → to_z w8 b ≡ event_of b
+unfolding event_of
+signed_byte b = ap (λ n. cond (ltb b 128) (pos b) (negsuc n)) (omega arith)
+
+pub unsigned_event : (e : Event) → of_z w8 e ≡ event_byte e
+unfolding event_byte
+unsigned_event (pos n) = refl
+unsigned_event (negsuc n) = omega arith
+
 -- an event in range is read back from its byte, and a byte from its event
 pub event_back : (e : Event) → InRange e → event_of (event_byte e) ≡ e
 unfolding event_of event_byte

@@ -36,10 +36,11 @@ pub fn state_count(s: &[u8], i: usize) -> usize
     requires { Whole s.now × (i < side_count) }
     ensures { result ≡ length (side (design s.now) i) }
 {
-    if held(s) <= i {
-        return 1;
+    if i < held(s) {
+        words::read_byte(s, sizes::BLOCK_BYTES * i + sizes::COUNT_IN_BLOCK)
+    } else {
+        1
     }
-    words::read_byte(s, sizes::BLOCK_BYTES * i + sizes::COUNT_IN_BLOCK)
 }
 
 // How many states each side has.
@@ -47,14 +48,7 @@ pub fn state_counts(s: &[u8]) -> [usize; sizes::SIDES]
     requires { Whole s.now }
     ensures { result ≡ map length (design s.now).sides }
 {
-    let mut counts: [usize; sizes::SIDES] = [0; sizes::SIDES];
-    let mut i = 0;
-    // Those of the sides before i are there.
-    while i < sizes::SIDES {
-        counts[i] = state_count(s, i);
-        i += 1;
-    }
-    counts
+    std::array::from_fn(|i| state_count(s, i))
 }
 
 // State k of side i.
@@ -62,22 +56,22 @@ pub fn side_state(s: &[u8], i: usize, k: usize) -> StateRecord
     requires { (Whole s.now) × (i < side_count) × (k < most_states) }
     ensures { result ≡ stored_state s.now i k }
 {
-    if held(s) <= i {
+    if i < held(s) {
+        states::read_state(
+            s,
+            sizes::BLOCK_BYTES * i + sizes::RECORDS_IN_BLOCK + sizes::STATE_BYTES * k,
+        )
+    } else {
         let waits = Place {
             event: 0,
             target: 0,
         };
-        let places = [waits; sizes::PLACES];
-        return StateRecord {
+        StateRecord {
             label: 0,
             count: 1,
-            places: places,
-        };
+            places: [waits; sizes::PLACES],
+        }
     }
-    states::read_state(
-        s,
-        sizes::BLOCK_BYTES * i + sizes::RECORDS_IN_BLOCK + sizes::STATE_BYTES * k,
-    )
 }
 
 pub fn formula_count(s: &[u8]) -> usize

@@ -11,22 +11,14 @@ use crate::sizes;
 pub fn to_event(b: u8) -> i8
     ensures { result ≡ event_of b }
 {
-    if b < 128 {
-        b as i8
-    } else {
-        -1 - ((255 - b) as i8)
-    }
+    b.cast_signed()
 }
 
 // The byte that stands for an event.
 pub fn to_byte(e: i8) -> u8
     ensures { result ≡ event_byte e }
 {
-    if 0 <= e {
-        e as u8
-    } else {
-        255 - ((-1 - e) as u8)
-    }
+    e.cast_unsigned()
 }
 
 pub fn read_event(s: &[u8], at: usize) -> i8
@@ -40,10 +32,7 @@ pub fn read_event(s: &[u8], at: usize) -> i8
 pub fn in_range(e: i8) -> bool
     ensures { result ≡ in_range e }
 {
-    if e < -63 {
-        return false;
-    }
-    e <= 63
+    -63 <= e && e <= 63
 }
 
 // The sent events are the negative ones.
@@ -66,14 +55,7 @@ pub fn duals(e: [i8; sizes::SIDES]) -> [i8; sizes::SIDES]
     requires { (i : ℕ) → i < side_count → InRange (slice_index_or e i tick) }
     ensures { result ≡ duals e }
 {
-    let mut d = e;
-    let mut i = 0;
-    // The first i events are negated.
-    while i < sizes::SIDES {
-        d[i] = dual_of(e[i]);
-        i += 1;
-    }
-    d
+    e.map(dual_of)
 }
 
 pub fn same(a: i8, b: i8) -> bool

@@ -8,7 +8,7 @@ ghost use Rattle.layout.specs.Tests.{form_right};
 use crate::sizes;
 
 // The kind, 1 to 9, and the operands; an operand that the kind doesn't have is 0.
-#[derive(Clone, Copy)]
+#[derive(Clone, Copy, PartialEq, Eq, Debug)]
 pub struct FormulaRecord {
     pub kind: u8,
     pub a: u8,
@@ -27,62 +27,27 @@ pub fn read_formula(s: &[u8], at: usize) -> FormulaRecord
 }
 
 impl FormulaRecord {
-    // Whether the kind has two formulas as operands: 5, 6 and 8.
-    fn has_two(self) -> bool
-        ensures { result ≡ (self.kind == 5 || self.kind == 6 || self.kind == 8) }
-    {
-        if self.kind == 5 {
-            return true;
-        }
-        if self.kind == 6 {
-            return true;
-        }
-        self.kind == 8
-    }
-
     // Whether the kind is known, and the operands are lower than the formula's own number k or, of a proposition, a label of one of the sides.
     pub fn is_right(self, k: usize) -> bool
         ensures { result ≡ (known_kind self.kind && form_right k (formula_of self)) }
     {
-        let kind = self.kind;
-        if kind < 1 {
-            return false;
+        match self.kind {
+            1 | 2 => true,
+            3 | 4 => usize::from(self.a) <= sizes::LAST_PROPOSITION,
+            5 | 6 | 8 => usize::from(self.a) < k && usize::from(self.b) < k,
+            7 | 9 => usize::from(self.a) < k,
+            _ => false,
         }
-        if 9 < kind {
-            return false;
-        }
-        if kind < 3 {
-            return true;
-        }
-        if kind < 5 {
-            return self.a as usize <= sizes::LAST_PROPOSITION;
-        }
-        if k <= self.a as usize {
-            return false;
-        }
-        if self.has_two() {
-            return (self.b as usize) < k;
-        }
-        true
     }
 
     // Whether the operands that the kind doesn't have are zero.
     pub fn absent_right(self) -> bool
         ensures { result ≡ all_zero (absent (formula_of self) self.a self.b) }
     {
-        let kind = self.kind;
-        if self.has_two() {
-            return true;
+        match self.kind {
+            5 | 6 | 8 => true,
+            3..=9 => self.b == 0,
+            _ => self.a == 0 && self.b == 0,
         }
-        if self.b != 0 {
-            return false;
-        }
-        if kind < 3 {
-            return self.a == 0;
-        }
-        if 9 < kind {
-            return self.a == 0;
-        }
-        true
     }
 }

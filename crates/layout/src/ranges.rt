@@ -10,14 +10,9 @@ pub fn check_of(s: &[u8], at: usize) -> u16
     requires { at + check_in_block ≤ length s.now }
     ensures { result ≡ check (part s.now at check_in_block) }
 {
-    let mut acc: u16 = 0;
-    let mut i = 0;
-    // acc is the check of the first i bytes.
-    while i < sizes::CHECK_IN_BLOCK {
-        acc = std::num::wrapping_add_u16(acc, s[at + i] as u16);
-        i += 1;
-    }
-    acc
+    s[at..at + sizes::CHECK_IN_BLOCK]
+        .iter()
+        .fold(0u16, |sum, &b| sum.wrapping_add(u16::from(b)))
 }
 
 // Whether the n bytes from `at` on are zero.
@@ -25,15 +20,7 @@ pub fn is_zero(s: &[u8], at: usize, n: usize) -> bool
     requires { at + n ≤ length s.now }
     ensures { result ≡ all_zero (part s.now at n) }
 {
-    let mut i = 0;
-    // The first i bytes are zero.
-    while i < n {
-        if s[at + i] != 0 {
-            return false;
-        }
-        i += 1;
-    }
-    true
+    s[at..at + n].iter().all(|&b| b == 0)
 }
 
 // The n bytes from `at` on become v.
@@ -41,11 +28,7 @@ pub fn fill(s: &mut [u8], at: usize, n: usize, v: u8)
     requires { at + n ≤ length s.old }
     ensures { s.new ≡ put s.old at (replicate n v) }
 {
-    let mut i = 0;
-    while i < n {
-        s[at + i] = v;
-        i += 1;
-    }
+    s[at..at + n].fill(v);
 }
 
 // The n bytes from `at` on become those of `src` from `from` on.
@@ -53,9 +36,5 @@ pub fn copy(src: &[u8], from: usize, dst: &mut [u8], at: usize, n: usize)
     requires { (from + n ≤ length src.now) × (at + n ≤ length dst.old) }
     ensures { dst.new ≡ put dst.old at (part src.now from n) }
 {
-    let mut i = 0;
-    while i < n {
-        dst[at + i] = src[from + i];
-        i += 1;
-    }
+    dst[at..at + n].copy_from_slice(&src[from..from + n]);
 }

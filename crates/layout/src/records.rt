@@ -8,21 +8,21 @@ ghost use Rattle.layout.specs.Records.{names_at, events_at, transition_at, recor
 use crate::{events, sizes, words};
 
 // A transition place of a converter record: an event for each side, and the next record.
-#[derive(Clone, Copy)]
+#[derive(Clone, Copy, PartialEq, Eq, Debug)]
 pub struct Transition {
     pub events: [i8; sizes::SIDES],
     pub next: u16,
 }
 
 // The state of each side that the record names, and its transitions.
-#[derive(Clone, Copy)]
+#[derive(Clone, Copy, PartialEq, Eq, Debug)]
 pub struct Record {
     pub names: [u8; sizes::SIDES],
     pub count: u8,
     pub places: [Transition; sizes::PLACES],
 }
 
-#[derive(Clone, Copy)]
+#[derive(Clone, Copy, PartialEq, Eq, Debug)]
 pub enum Outcome {
     Added,
     // The events are there already.
@@ -32,7 +32,7 @@ pub enum Outcome {
 }
 
 // The record as it is after an addition.
-#[derive(Clone, Copy)]
+#[derive(Clone, Copy, PartialEq, Eq, Debug)]
 pub struct Addition {
     pub outcome: Outcome,
     pub left: Record,
@@ -43,14 +43,7 @@ pub fn read_names(s: &[u8], at: usize) -> [u8; sizes::SIDES]
     requires { at + side_count ≤ length s.now }
     ensures { result ≡ names_at s.now at }
 {
-    let mut names: [u8; sizes::SIDES] = [0; sizes::SIDES];
-    let mut i = 0;
-    // The first i are read.
-    while i < sizes::SIDES {
-        names[i] = s[at + i];
-        i += 1;
-    }
-    names
+    std::array::from_fn(|i| s[at + i])
 }
 
 // The events of the sides from `at` on.
@@ -58,14 +51,7 @@ fn read_events(s: &[u8], at: usize) -> [i8; sizes::SIDES]
     requires { at + side_count ≤ length s.now }
     ensures { result ≡ events_at s.now at }
 {
-    let mut read: [i8; sizes::SIDES] = [0; sizes::SIDES];
-    let mut i = 0;
-    // The first i are read.
-    while i < sizes::SIDES {
-        read[i] = events::read_event(s, at + i);
-        i += 1;
-    }
-    read
+    std::array::from_fn(|i| events::read_event(s, at + i))
 }
 
 // Place k of the converter record at `at`.
@@ -74,9 +60,8 @@ pub fn read_transition(s: &[u8], at: usize, k: usize) -> Transition
     ensures { result ≡ transition_at s.now at k }
 {
     let i = at + sizes::PLACES_AT + sizes::TRANSITION_BYTES * k;
-    let read = read_events(s, i);
     Transition {
-        events: read,
+        events: read_events(s, i),
         next: words::read_word(s, i + sizes::NEXT_AT),
     }
 }
@@ -85,21 +70,10 @@ pub fn read_record(s: &[u8], at: usize) -> Record
     requires { at + record_bytes ≤ length s.now }
     ensures { result ≡ record_at s.now at }
 {
-    let names = read_names(s, at);
-    let count = s[at + sizes::EDGE_COUNT_AT];
-    let first = read_transition(s, at, 0);
-    let mut places = [first; sizes::PLACES];
-    let mut k = 1;
-    // The first k places are read.
-    while k < sizes::PLACES {
-        let t = read_transition(s, at, k);
-        places[k] = t;
-        k += 1;
-    }
     Record {
-        names: names,
-        count: count,
-        places: places,
+        names: read_names(s, at),
+        count: s[at + sizes::EDGE_COUNT_AT],
+        places: std::array::from_fn(|k| read_transition(s, at, k)),
     }
 }
 
@@ -107,15 +81,7 @@ pub fn read_record(s: &[u8], at: usize) -> Record
 pub fn same_events(x: [i8; sizes::SIDES], y: [i8; sizes::SIDES]) -> bool
     ensures { result ≡ same_events x y }
 {
-    let mut i = 0;
-    // The first i are the same.
-    while i < sizes::SIDES {
-        if !events::same(x[i], y[i]) {
-            return false;
-        }
-        i += 1;
-    }
-    true
+    x == y
 }
 
 impl Record {
@@ -123,16 +89,14 @@ impl Record {
     pub fn new(names: [u8; sizes::SIDES]) -> Record
         ensures { result ≡ named names }
     {
-        let ticks: [i8; sizes::SIDES] = [0; sizes::SIDES];
         let unused = Transition {
-            events: ticks,
+            events: [0; sizes::SIDES],
             next: 0,
         };
-        let places = [unused; sizes::PLACES];
         Record {
-            names: names,
+            names,
             count: 0,
-            places: places,
+            places: [unused; sizes::PLACES],
         }
     }
 
@@ -141,18 +105,9 @@ impl Record {
         requires { self.count ≤ place_count }
         ensures { result ≡ present self events }
     {
-        let n = self.count as usize;
-        let mut k = 0;
-        // None of the first k transitions has these events.
-        while k < n {
-            let t = self.places[k];
-            let there = t.events;
-            if same_events(there, events) {
-                return true;
-            }
-            k += 1;
-        }
-        false
+        self.places[..usize::from(self.count)]
+            .iter()
+            .any(|t| same_events(t.events, events))
     }
 
     // One transition more, unless its events are there already or all places are used.
@@ -160,27 +115,18 @@ impl Record {
         requires { self.count ≤ place_count }
         ensures { result ≡ added self t }
     {
-        let events = t.events;
-        if self.has(events) {
-            return Addition {
-                outcome: Outcome::Present,
-                left: self,
-            };
-        }
-        let n = self.count as usize;
-        if n < sizes::PLACES {
-            let mut more = self;
-            more.places[n] = t;
-            more.count = (n + 1) as u8;
-            return Addition {
-                outcome: Outcome::Added,
-                left: more,
-            };
-        }
-        Addition {
-            outcome: Outcome::Full,
-            left: self,
-        }
+        let mut left = self;
+        let n = usize::from(self.count);
+        let outcome = if self.has(t.events) {
+            Outcome::Present
+        } else if n < sizes::PLACES {
+            left.places[n] = t;
+            left.count += 1;
+            Outcome::Added
+        } else {
+            Outcome::Full
+        };
+        Addition { outcome, left }
     }
 }
 
@@ -189,13 +135,7 @@ fn write_events(s: &mut [u8], at: usize, written: [i8; sizes::SIDES])
     requires { at + side_count ≤ length s.old }
     ensures { s.new ≡ put s.old at (events_to written) }
 {
-    let mut i = 0;
-    // The first i are written.
-    while i < sizes::SIDES {
-        let b = events::to_byte(written[i]);
-        s[at + i] = b;
-        i += 1;
-    }
+    s[at..at + sizes::SIDES].copy_from_slice(&written.map(events::to_byte));
 }
 
 // The side states that a record names, written at `at`.
@@ -203,12 +143,7 @@ fn write_names(s: &mut [u8], at: usize, names: [u8; sizes::SIDES])
     requires { at + side_count ≤ length s.old }
     ensures { s.new ≡ put s.old at (names_to names) }
 {
-    let mut i = 0;
-    // The first i are written.
-    while i < sizes::SIDES {
-        s[at + i] = names[i];
-        i += 1;
-    }
+    s[at..at + sizes::SIDES].copy_from_slice(&names);
 }
 
 // A transition place, written at `at`.
@@ -216,8 +151,7 @@ pub fn write_transition(s: &mut [u8], at: usize, t: Transition)
     requires { at + transition_bytes ≤ length s.old }
     ensures { s.new ≡ put s.old at (transition_to t) }
 {
-    let written = t.events;
-    write_events(s, at, written);
+    write_events(s, at, t.events);
     s[at + sizes::SIDES] = 0;
     words::write_word(s, at + sizes::NEXT_AT, t.next);
 }
@@ -227,8 +161,7 @@ fn write_header(s: &mut [u8], at: usize, r: Record)
     requires { at + places_at ≤ length s.old }
     ensures { s.new ≡ put s.old at (header_to r) }
 {
-    let names = r.names;
-    write_names(s, at, names);
+    write_names(s, at, r.names);
     s[at + sizes::EDGE_COUNT_AT] = r.count;
 }
 
@@ -237,12 +170,8 @@ fn write_places(s: &mut [u8], at: usize, r: Record)
     requires { at + transition_bytes * place_count ≤ length s.old }
     ensures { s.new ≡ put s.old at (places_to r) }
 {
-    let mut k = 0;
-    // k places are written.
-    while k < sizes::PLACES {
-        let t = r.places[k];
-        write_transition(s, at + sizes::TRANSITION_BYTES * k, t);
-        k += 1;
+    for k in 0..sizes::PLACES {
+        write_transition(s, at + sizes::TRANSITION_BYTES * k, r.places[k]);
     }
 }
 

@@ -8,13 +8,13 @@ ghost use Rattle.layout.specs.States.{place_at, state_at, move_of, state_of, mov
 use crate::{events, sizes, words};
 
 // A transition place of a state.
-#[derive(Clone, Copy)]
+#[derive(Clone, Copy, PartialEq, Eq, Debug)]
 pub struct Place {
     pub event: i8,
     pub target: u8,
 }
 
-#[derive(Clone, Copy)]
+#[derive(Clone, Copy, PartialEq, Eq, Debug)]
 pub struct StateRecord {
     pub label: u16,
     pub count: u8,
@@ -27,9 +27,8 @@ pub fn read_place(s: &[u8], at: usize, k: usize) -> Place
     ensures { result ≡ place_at s.now at k }
 {
     let i = at + sizes::PLACES_AT + sizes::MOVE_BYTES * k;
-    let e = events::read_event(s, i);
     Place {
-        event: e,
+        event: events::read_event(s, i),
         target: s[i + 1],
     }
 }
@@ -38,22 +37,10 @@ pub fn read_state(s: &[u8], at: usize) -> StateRecord
     requires { at + state_bytes ≤ length s.now }
     ensures { result ≡ state_at s.now at }
 {
-    let label = words::read_word(s, at);
-    let count = s[at + sizes::COUNT_AT];
-    let places = [
-        read_place(s, at, 0),
-        read_place(s, at, 1),
-        read_place(s, at, 2),
-        read_place(s, at, 3),
-        read_place(s, at, 4),
-        read_place(s, at, 5),
-        read_place(s, at, 6),
-        read_place(s, at, 7),
-    ];
     StateRecord {
-        label: label,
-        count: count,
-        places: places,
+        label: words::read_word(s, at),
+        count: s[at + sizes::COUNT_AT],
+        places: std::array::from_fn(|k| read_place(s, at, k)),
     }
 }
 
@@ -62,14 +49,13 @@ fn used_place(q: StateRecord, k: usize) -> Place
     requires { k < place_count }
     ensures { move_of result ≡ slice_index_or (state_of q).moves k no_move }
 {
-    let n = q.count as usize;
-    if k < n {
-        let p = q.places[k];
-        return p;
-    }
-    Place {
-        event: 0,
-        target: 0,
+    if k < usize::from(q.count) {
+        q.places[k]
+    } else {
+        Place {
+            event: 0,
+            target: 0,
+        }
     }
 }
 
@@ -78,8 +64,7 @@ fn write_place(s: &mut [u8], at: usize, p: Place)
     requires { at + move_bytes ≤ length s.old }
     ensures { s.new ≡ put s.old at (move_to (move_of p)) }
 {
-    let b = events::to_byte(p.event);
-    s[at] = b;
+    s[at] = events::to_byte(p.event);
     s[at + 1] = p.target;
 }
 
@@ -88,12 +73,8 @@ fn write_places(s: &mut [u8], at: usize, q: StateRecord)
     requires { at + move_bytes * place_count ≤ length s.old }
     ensures { s.new ≡ put s.old at (moves_to (state_of q)) }
 {
-    let mut k = 0;
-    // k places are written.
-    while k < sizes::PLACES {
-        let p = used_place(q, k);
-        write_place(s, at + sizes::MOVE_BYTES * k, p);
-        k += 1;
+    for k in 0..sizes::PLACES {
+        write_place(s, at + sizes::MOVE_BYTES * k, used_place(q, k));
     }
 }
 

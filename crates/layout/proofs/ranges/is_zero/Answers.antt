@@ -1,21 +1,16 @@
--- `ranges::is_zero` meets its contract. The invariant: the first i bytes are zero.
-use Rattle.std.proofs.Common.{sym, not-suc-le-zero, arith, rules, below_more}
-use Rattle.layout.proofs.Parts.{zeros, not_zeros}
+-- `ranges::is_zero` meets its contract.
+use Rattle.std.proofs.Common.{eqb, sym, ◌∙◌, rules}
+use borrow.Author.Tests.{tests}
+use Rattle.std.proofs.lemmas.Iterator.{YieldsList-from_slice}
+use Rattle.std.proofs.lemmas.Iterator.Search.{all_from_yields_List}
+use Rattle.layout.specs.Bytes.{part, all_zero}
+use Rattle.layout.proofs.ListTests.{all_is_list_all}
+use Rattle.layout.proofs.Parts.{part_range}
 use Rattle.layout.proofs.ranges.is_zero.Goals as goal
 
-pub loop-i-init : goal.loop-i-init
-loop-i-init c = (search rules, λ k h. absurd (not-suc-le-zero h))
-
-pub returns-then-s-at-ne0 : goal.returns-then-s-at-ne0
-returns-then-s-at-ne0 c =
-    let a = c.args in
-    let l = c.loop-i in
-    sym (not_zeros a.s.now a.at a.n c.requires l.i (omega arith) c.if-s-at-ne0.true)
-
-pub loop-i-preserved : goal.loop-i-preserved
-loop-i-preserved c = (search rules, below_more _ _ c.loop-i.invariant.1 (search rules))
-
 pub returns : goal.returns
+unfolding all_zero
 returns c =
     let a = c.args in
-    sym (zeros a.s.now a.at a.n c.requires (λ k h. c.loop-i.invariant.1 k (omega arith)))
+    all_from_yields_List (λ b. eqb b 0) _ _ _ c.all.ensures.ran (YieldsList-from_slice (part a.s.now a.at a.n) (c.iter.ensures.rest ∙ part_range a.s.now a.at a.n)) (λ x b q k. search (rules, tests))
+    ∙ sym (all_is_list_all (λ b. eqb b 0) (part a.s.now a.at a.n))

@@ -1,39 +1,17 @@
--- `records::write_events` meets its contract. The invariant: the first i events are put.
-use Rattle.std.proofs.Common.{◌≡◌, ℕ, ◌+◌, length, get_or, set, sym, ap, ◌∙◌, ap₂, arith, rules}
+-- `records::write_events` meets its contract.
+use Rattle.std.proofs.Common.{◌∙◌, rules}
 use Rattle.model.specs.Events.{tick}
 use Rattle.layout.specs.Sizes.{side_count}
-use Rattle.layout.specs.Tables.{table, table_from}
-use Rattle.layout.specs.Bytes.{put, event_byte}
-use Rattle.layout.proofs.SignedBytes.{read_back}
-use Rattle.layout.proofs.Tables.{length_table}
-use Rattle.layout.proofs.Put.{put_nil, put_table_next, length_put}
+use Rattle.layout.specs.Bytes.{event_byte}
+use Rattle.layout.specs.Records.{events_to}
+use Rattle.layout.proofs.Arrays.{table_from_map}
+use Rattle.layout.proofs.Put.{put_stored}
+use Rattle.layout.proofs.RecordBytes.{length_events}
 use Rattle.layout.proofs.records.write_events.Goals as goal
-use Rattle.layout.proofs.records.write_events.Goals.{At-loop-i}
-
--- the slice keeps its length
-kept : (c : At-loop-i) → length c.loop-i.s ≡ length c.args.s.now
-kept c =
-    let a = c.args in
-    let f : ℕ → ℕ = λ j. event_byte (get_or a.written j tick) in
-    ap length c.loop-i.invariant.1 ∙ length_put (table c.loop-i.i f) a.s.now a.at (omega (arith, length_table f c.loop-i.i))
-
-pub loop-i-init : goal.loop-i-init
-unfolding table table_from
-loop-i-init c = (search rules, sym (put_nil c.args.s.now c.args.at (omega arith)))
-
-pub bounds-s-at : goal.bounds-s-at
-bounds-s-at c = omega (arith, kept (goal.at.bounds-s-at c).At-loop-i)
-
-pub loop-i-preserved : goal.loop-i-preserved
-loop-i-preserved c =
-    let a = c.args in
-    let l = c.loop-i in
-    let f : ℕ → ℕ = λ j. event_byte (get_or a.written j tick) in
-    let is : c.to_byte-b.result ≡ f l.i = c.to_byte-b.ensures ∙ ap event_byte (read_back (get_or a.written l.i tick) c.to_byte-arg-1.given) in
-    (search rules, ap₂ (λ x v. set x (a.at + l.i) v) l.invariant.1 is ∙ put_table_next f a.s.now a.at l.i (omega arith))
 
 pub returns : goal.returns
 returns c =
     let a = c.args in
-    let e : c.loop-i.i ≡ side_count = omega arith in
-    c.loop-i.invariant.1 ∙ ap (λ i. put a.s.now a.at (table i (λ j. event_byte (get_or a.written j tick)))) e
+    put_stored a.s.now a.at side_count c.copy_from_slice.new.self (events_to a.written)
+    (c.copy_from_slice.ensures.after ∙ table_from_map _ event_byte tick 0 c.map.ensures.items (λ j y q h k. search rules))
+    (length_events a.written)

@@ -9,36 +9,24 @@ use Rattle.layout.proofs.Pieces.{pieces_more}
 use Rattle.layout.proofs.Put.{put_behind, put_nil, length_put}
 use Rattle.layout.proofs.RecordBytes.{place_to, first_places_to, length_transition, length_first_places}
 use Rattle.layout.proofs.records.write_places.Goals as goal
-use Rattle.layout.proofs.records.write_places.Goals.{At-loop-k}
-
--- the slice keeps its length
-kept : (c : At-loop-k) → length c.loop-k.s ≡ length c.args.s.now
-kept c =
-    let a = c.args in
-    ap length c.loop-k.invariant.1 ∙ length_put (first_places_to a.r c.loop-k.k) a.s.now a.at (omega (arith, length_first_places a.r c.loop-k.k))
 
 pub loop-k-init : goal.loop-k-init
 unfolding flatten table table_from
-loop-k-init c = (search rules, sym (put_nil c.args.s.now c.args.at (omega arith)))
-
-pub write_transition-requires : goal.write_transition-requires
-write_transition-requires c = omega (arith, kept (goal.at.write_transition-requires c).At-loop-k)
+loop-k-init c = sym (put_nil c.args.s.now c.args.at (omega arith))
 
 pub loop-k-preserved : goal.loop-k-preserved
 loop-k-preserved c =
     let a = c.args in
-    let l = c.loop-k in (
-      search rules,
-      c.write_transition.ensures
-          ∙ ap (λ x. put x (a.at + transition_bytes * l.k) (place_to a.r l.k)) l.invariant.1
-          ∙ put_behind (first_places_to a.r l.k) (place_to a.r l.k) a.s.now a.at (transition_bytes * l.k) (length_first_places a.r l.k)
+    let l = c.loop-k in
+    c.write_transition.ensures
+    ∙ ap (λ x. put x (a.at + transition_bytes * l.k) (place_to a.r l.k)) l.invariant
+    ∙ put_behind (first_places_to a.r l.k) (place_to a.r l.k) a.s.now a.at (transition_bytes * l.k) (length_first_places a.r l.k)
           (omega (arith, c.requires, length_transition (get_or a.r.places l.k no_transition)))
-          ∙ ap (λ x. put a.s.now a.at x) (sym (pieces_more (place_to a.r) l.k)),
-    )
+    ∙ ap (λ x. put a.s.now a.at x) (sym (pieces_more (place_to a.r) l.k))
 
 pub returns : goal.returns
 unfolding places_to
 returns c =
     let a = c.args in
     let e : c.loop-k.k ≡ place_count = omega arith in
-    c.loop-k.invariant.1 ∙ ap (λ k. put a.s.now a.at (first_places_to a.r k)) e
+    c.loop-k.invariant ∙ ap (λ k. put a.s.now a.at (first_places_to a.r k)) e

@@ -1,11 +1,7 @@
-use Rattle.std.proofs.Common.{◌≡◌, ◌-◌, ◌≤◌}
-use Rattle.layout.specs.Sizes.{place_count}
+use Rattle.std.proofs.Common.{◌≡◌}
 use Rattle.layout.specs.Bytes.{put}
 use Rattle.layout.proofs.RecordBytes.{first_places_to}
 use Rattle.layout.proofs.records.write_places.Given as goal
 
 abbrev pub invariant-loop-k : goal.invariant-loop-k
-invariant-loop-k l = (l.k ≤ place_count) × (l.s ≡ put l.initial.s l.at (first_places_to l.r l.k))
-
-abbrev pub decreases-loop-k : goal.decreases-loop-k
-decreases-loop-k l = place_count - l.k
+invariant-loop-k l = l.s ≡ put l.initial.s l.at (first_places_to l.r l.k)

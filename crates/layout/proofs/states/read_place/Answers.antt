@@ -5,4 +5,4 @@ use Rattle.layout.proofs.states.read_place.Goals as goal
 
 pub returns : goal.returns
 unfolding place_at
-returns c = cc (read_back c.read_event-e.result c.read_event-e.type_inv)
+returns c = cc (read_back c.read_event.result c.read_event.type_inv)

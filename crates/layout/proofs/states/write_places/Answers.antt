@@ -9,36 +9,24 @@ use Rattle.layout.proofs.Pieces.{pieces_more}
 use Rattle.layout.proofs.Put.{put_behind, put_nil, length_put}
 use Rattle.layout.proofs.StateBytes.{nth_move_to, first_moves_to, length_first_moves}
 use Rattle.layout.proofs.states.write_places.Goals as goal
-use Rattle.layout.proofs.states.write_places.Goals.{At-loop-k}
-
--- the slice keeps its length
-kept : (c : At-loop-k) → length c.loop-k.s ≡ length c.args.s.now
-kept c =
-    let a = c.args in
-    ap length c.loop-k.invariant.1 ∙ length_put (first_moves_to (state_of a.q) c.loop-k.k) a.s.now a.at (omega (arith, length_first_moves (state_of a.q) c.loop-k.k))
 
 pub loop-k-init : goal.loop-k-init
 unfolding flatten table table_from
-loop-k-init c = (search rules, sym (put_nil c.args.s.now c.args.at (omega arith)))
-
-pub write_place-requires : goal.write_place-requires
-write_place-requires c = omega (arith, kept (goal.at.write_place-requires c).At-loop-k)
+loop-k-init c = sym (put_nil c.args.s.now c.args.at (omega arith))
 
 pub loop-k-preserved : goal.loop-k-preserved
 loop-k-preserved c =
     let a = c.args in
     let l = c.loop-k in
-    let q = state_of a.q in (
-      search rules,
-      c.write_place.ensures
-          ∙ ap₂ (λ x m. put x (a.at + move_bytes * l.k) (move_to m)) l.invariant.1 c.used_place-p.ensures
-          ∙ put_behind (first_moves_to q l.k) (nth_move_to q l.k) a.s.now a.at (move_bytes * l.k) (length_first_moves q l.k) (omega (arith, c.requires))
-          ∙ ap (λ x. put a.s.now a.at x) (sym (pieces_more (nth_move_to q) l.k)),
-    )
+    let q = state_of a.q in
+    c.write_place.ensures
+    ∙ ap₂ (λ x m. put x (a.at + move_bytes * l.k) (move_to m)) l.invariant c.used_place.ensures
+    ∙ put_behind (first_moves_to q l.k) (nth_move_to q l.k) a.s.now a.at (move_bytes * l.k) (length_first_moves q l.k) (omega (arith, c.requires))
+    ∙ ap (λ x. put a.s.now a.at x) (sym (pieces_more (nth_move_to q) l.k))
 
 pub returns : goal.returns
 unfolding moves_to
 returns c =
     let a = c.args in
     let e : c.loop-k.k ≡ place_count = omega arith in
-    c.loop-k.invariant.1 ∙ ap (λ k. put a.s.now a.at (first_moves_to (state_of a.q) k)) e
+    c.loop-k.invariant ∙ ap (λ k. put a.s.now a.at (first_moves_to (state_of a.q) k)) e

@@ -1,46 +1,34 @@
--- `FormulaRecord::is_right` meets its contract: what each branch knows of the kind and the operands gives the answer.
-use Rattle.std.proofs.Common.{sym, ◌∙◌, arith}
-use Rattle.layout.proofs.FormulaRecords.{right_low, right_high, right_constant, right_proposition, right_not_lower, right_two, right_one}
+-- `FormulaRecord::is_right` meets its contract, by the kind.
+use Rattle.std.proofs.Common.{sym, ap, ◌∙◌, ◌<◌, ◌≤◌, ◌&&◌, ltb, leb, arith, lt-ltb, le-ltb}
+use Rattle.layout.specs.Sizes.{last_proposition}
+use Rattle.layout.proofs.FormulaRecords.{right_constant, right_proposition, right_two, right_one}
 use Rattle.layout.proofs.formulas.FormulaRecord.is_right.Goals as goal
 
-pub returns-then-kind-lt1 : goal.returns-then-kind-lt1
-returns-then-kind-lt1 c =
-    let a = c.args in
-    let q = a.self in
-    sym (right_low q.kind q.a q.b a.k (omega arith))
+pub returns-in-1 : goal.returns-in-1
+returns-in-1 c =
+    let q = c.args.self in
+    sym (right_constant q.a q.b c.args.k q.kind (omega arith) (omega arith))
 
-pub returns-then-kind-gt9 : goal.returns-then-kind-gt9
-returns-then-kind-gt9 c =
-    let a = c.args in
-    let q = a.self in
-    sym (right_high q.kind q.a q.b a.k (omega arith))
+pub returns-in-3 : goal.returns-in-3
+returns-in-3 c =
+    let q = c.args.self in
+    ap (λ a. leb a last_proposition) c.from-in-3.ensures ∙ sym (right_proposition q.a q.b c.args.k q.kind (omega arith) (omega arith))
 
-pub returns-then-kind-lt3 : goal.returns-then-kind-lt3
-returns-then-kind-lt3 c =
-    let a = c.args in
-    let q = a.self in
-    sym (right_constant q.kind q.a q.b a.k (omega arith) (omega arith))
+pub returns-then-from-k : goal.returns-then-from-k
+returns-then-from-k c =
+    let q = c.args.self in
+    let k = c.args.k in
+    let low : q.a < k = omega arith in
+    sym (right_two q.a q.b k q.kind (grind arith) (grind arith) (λ e. grind arith) ∙ rw (lt-ltb q.a k low) (ap (λ b. ltb b k) (sym c.from-then-from-k.ensures)))
 
-pub returns-then-kind-lt5 : goal.returns-then-kind-lt5
-returns-then-kind-lt5 c =
-    let a = c.args in
-    let q = a.self in
-    sym (right_proposition q.kind q.a q.b a.k (omega arith) (omega arith))
+pub returns-else-from-k : goal.returns-else-from-k
+returns-else-from-k c =
+    let q = c.args.self in
+    let k = c.args.k in
+    let high : k ≤ q.a = omega arith in
+    sym (right_two q.a q.b k q.kind (grind arith) (grind arith) (λ e. grind arith) ∙ rw (c.from-in-5.ensures, le-ltb q.a k high))
 
-pub returns-then-k-self : goal.returns-then-k-self
-returns-then-k-self c =
-    let a = c.args in
-    let q = a.self in
-    sym (right_not_lower q.kind q.a q.b a.k (omega arith) (omega arith) (omega arith))
-
-pub returns-then-has_two : goal.returns-then-has_two
-returns-then-has_two c =
-    let a = c.args in
-    let q = a.self in
-    sym (right_two q.kind q.a q.b a.k (omega arith) (omega arith) (omega arith) (sym c.has_two.ensures ∙ c.if-has_two.true))
-
-pub returns : goal.returns
-returns c =
-    let a = c.args in
-    let q = a.self in
-    sym (right_one q.kind q.a q.b a.k (omega arith) (omega arith) (omega arith) (sym c.has_two.ensures ∙ c.if-has_two.false))
+pub returns-in-7 : goal.returns-in-7
+returns-in-7 c =
+    let q = c.args.self in
+    ap (λ a. ltb a c.args.k) c.from.ensures ∙ sym (right_one q.a q.b c.args.k q.kind (omega arith) (omega arith) (λ e. omega arith))

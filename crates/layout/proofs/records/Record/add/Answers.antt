@@ -1,5 +1,5 @@
 -- `Record::add` meets its contract, by what `has` and the count say.
-use Rattle.std.proofs.Common.{sym, ◌∙◌, le-ltb, lt-ltb}
+use Rattle.std.proofs.Common.{sym, ◌∙◌, arith, le-ltb, lt-ltb}
 use Rattle.layout.specs.Records.{added}
 use Rattle.layout.proofs.records.Record.add.Goals as goal
 
@@ -10,11 +10,9 @@ returns-then-has c = rw (sym c.has.ensures ∙ c.if-has.true)
 pub returns-then-n-lt-PLACES : goal.returns-then-n-lt-PLACES
 unfolding added
 returns-then-n-lt-PLACES c =
-    let n = c.args.self.count in
-    rw (sym c.has.ensures ∙ c.if-has.false, lt-ltb n 8 c.if-n-lt-PLACES.true)
+    rw (sym c.has.ensures ∙ c.if-has.false, lt-ltb c.args.self.count 8 (omega arith), c.from-n.ensures)
 
-pub returns : goal.returns
+pub returns-else-n-lt-PLACES : goal.returns-else-n-lt-PLACES
 unfolding added
-returns c =
-    let n = c.args.self.count in
-    rw (sym c.has.ensures ∙ c.if-has.false, le-ltb n 8 c.if-n-lt-PLACES.false)
+returns-else-n-lt-PLACES c =
+    rw (sym c.has.ensures ∙ c.if-has.false, le-ltb c.args.self.count 8 (omega arith))
