@@ -61,9 +61,3 @@ module _ (bs : List ℕ) (at n : ℕ) (fits : at + n ≤ length bs) where
   unfolding all_zero
   zero_at e k h =
       sym (byte_part bs at n k h) ∙ eqb-true (byte (part bs at n) k) 0 (all_at (λ b. eqb b 0) 0 (part bs at n) e k (omega (arith, length_part bs at n fits)))
-
-  pub not_zeros : (k : ℕ) → k < n → (byte bs (at + k) ≡ 0 → ⊥) → all_zero (part bs at n) ≡ false
-  unfolding all_zero
-  not_zeros k h ne =
-      all_false (λ b. eqb b 0) 0 (part bs at n) k (omega (arith, length_part bs at n fits))
-      (ne_eqb (byte (part bs at n) k) 0 (λ e. ne (sym (byte_part bs at n k h) ∙ e)))

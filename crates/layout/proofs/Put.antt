@@ -103,16 +103,6 @@ put_more vs bs at v h =
 pub put_next : (vs bs : List ℕ) (at i v : ℕ) → length vs ≡ i → at + i < length bs → set (put bs at vs) (at + i) v ≡ put bs at (vs ++ (v ∷ []))
 put_next vs bs at i v e h = ap (λ n. set (put bs at vs) (at + n) v) (sym e) ∙ put_more vs bs at v (omega arith)
 
-pub fill_next : (bs : List ℕ) (at i v : ℕ) → at + i < length bs → set (put bs at (replicate i v)) (at + i) v ≡ put bs at (replicate (i + 1) v)
-fill_next bs at i v h =
-    put_next (replicate i v) bs at i v (length-replicate i v) h ∙ ap (λ l. put bs at l) (replicate-append-replicate i 1 v)
-
-pub copy_next : (src dst : List ℕ) (from at i : ℕ) → from + i < length src → at + i < length dst
-    → set (put dst at (part src from i)) (at + i) (byte src (from + i)) ≡ put dst at (part src from (i + 1))
-copy_next src dst from at i hs hd =
-    put_next (part src from i) dst at i (byte src (from + i)) (length_part src from i (omega arith)) hd
-    ∙ ap (λ l. put dst at l) (sym (part_more src from i hs))
-
 -- a turn of a loop that stores the entries of a table, one behind the other
 pub put_table_next : (f : ℕ → ℕ) (bs : List ℕ) (at i : ℕ) → at + i < length bs → set (put bs at (table i f)) (at + i) (f i) ≡ put bs at (table (i + 1) f)
 put_table_next f bs at i h =
