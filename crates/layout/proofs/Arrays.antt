@@ -1,9 +1,11 @@
 -- Arrays made element by element, by a function that stays as it is: by number (`from_fn`), and from another array (`map`).
-use Rattle.std.proofs.Common.{◌≡◌, ℕ, zero, suc, ◌+◌, ◌<◌, List, [], ◌∷◌, length, get_or, sym, refl, ap, ◌∙◌, subst, not-suc-le-zero, arith, ext_get_or}
+use Rattle.std.proofs.Common.{◌≡◌, ℕ, zero, suc, ◌+◌, ◌<◌, List, [], ◌∷◌, map, length, get_or, sym, refl, ap, ◌∙◌, subst, not-suc-le-zero, arith, ext_get_or}
 use denote.Param.Members.{Mut, Called}
 use Rattle.std.specs.Array.{IsFromFnResultFrom, IsFromFnResult, MapsFrom, IsMapOf, list_steps}
 use Rattle.std.specs.Iterator.{AlwaysYields}
 use Rattle.std.proofs.lemmas.Iterator.{YieldsList}
+use lib.ListN.{length-map, get_or-map}
+use Rattle.std.proofs.lemmas.List.{get_or_default}
 use Rattle.layout.specs.Tables.{table}
 use Rattle.layout.proofs.Tables.{length_table, entry}
 
@@ -51,6 +53,15 @@ module _ {F A B : Type 0} {g : Mut F (A × Unit {0}) B} (f : F) (h : A → B) (c
       ext_get_or d ys (table n (λ j. h (get_or xs j c))) (made.long ∙ sym (length_table (λ j. h (get_or xs j c)) n)) (λ j l.
       let u : j < n = omega (arith, made.long) in
       mapped_at xs ys n 0 made.each (λ o y q v. gives o y q (omega arith)) j j (omega arith) u ∙ sym (entry (λ j. h (get_or xs j c)) d n j u))
+
+-- where what w reads of an entry is h of the entry that it was made from
+pub map_from_map : {F A B C : Type 0} {g : Mut F (A × Unit {0}) B} (f : F) (w : B → C) (h : A → C) (c : A) (d : B) {xs : List A} {ys : List B} {n : ℕ}
+    → IsMapOf g f xs ys n → length xs ≡ n → ((j : ℕ) (p : F) (y : B) (q : F) → j < n → Called g p (get_or xs j c, tt) y q → w y ≡ h (get_or xs j c)) → map w ys ≡ map h xs
+map_from_map f w h c d {xs} {ys} {n} made long gives =
+    ext_get_or (w d) (map w ys) (map h xs) (length-map ys w ∙ made.long ∙ sym long ∙ sym (length-map xs h)) (λ j l.
+    let u : j < n = omega (arith, made.long, length-map ys w) in
+    let m = made.at j c d u in
+    get_or-map w ys j d ∙ gives j m.0 (get_or ys j d) m.1 u m.2 ∙ sym (get_or-map h xs j c) ∙ get_or_default (map h xs) j (h c) (w d) (omega (arith, long, length-map xs h)))
 
 -- what a function may be asked at each entry
 pub YieldsList-from_list : {A : Type 0} (xs : List A) → YieldsList list_steps (λ x. x) xs xs
