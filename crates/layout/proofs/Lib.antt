@@ -11,7 +11,6 @@ pub mod SignedBytes
 pub mod RecordBytes
 pub mod RecordMoves
 pub mod StateBytes
-pub mod FormulaRecords
 pub mod ConverterBytes
 pub mod Nodes
 pub mod Sealed

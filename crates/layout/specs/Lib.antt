@@ -4,6 +4,7 @@ pub mod Tables
 pub mod Bytes
 pub mod States
 pub mod Formulas
+pub mod Forms
 pub mod Records
 pub mod Unused
 pub mod Blocks
