@@ -1,5 +1,6 @@
 -- To read first: `WellFormed`, a design that passes tests 1 to 8 is well formed in the model's sense, and `FourBlocks`, what one of four blocks is. The rest is what proofs of functions cite.
 pub mod AllTests
+pub mod Answered
 pub mod ByRefusal
 pub mod CountedBytes
 pub mod DesignBlocks

@@ -9,7 +9,9 @@ ghost use Rattle.layout.specs.Unused.{place_gaps};
 ghost use Rattle.layout.specs.Converters.{records, converter};
 ghost use Rattle.layout.specs.Tests.{in_range, node_right};
 ghost use Rattle.refusals.specs.Refusals.{size_right, record_right, records_right, converter_refusal};
+ghost use Rattle.refusals.specs.Answered.{refusal_of};
 
+use crate::refusal::Refusal;
 use layout::records::{Record, Transition};
 use layout::{events, ranges, records, sizes, words};
 
@@ -186,15 +188,15 @@ pub fn records_right(s: &[u8]) -> bool
     true
 }
 
-// 10 or 11 for bytes that are no converter, and 0 for a converter.
-pub fn converter_refusal(s: &[u8]) -> u8
-    ensures { result ≡ converter_refusal s.now }
+// The first of 10 and 11 that bytes fail, which are then no converter.
+pub fn converter_refusal(s: &[u8]) -> Result<(), Refusal>
+    ensures { refusal_of result ≡ converter_refusal s.now }
 {
     if !size_right(s) {
-        return 10;
+        return Err(Refusal::ConverterSize);
     }
     if !records_right(s) {
-        return 11;
+        return Err(Refusal::ConverterRecord);
     }
-    0
+    Ok(())
 }

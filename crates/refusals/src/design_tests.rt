@@ -7,7 +7,9 @@ ghost use Rattle.layout.specs.Designs.{held, Whole, design, side, side_block};
 ghost use Rattle.refusals.specs.Counted.{asked_of, block, Counted};
 ghost use Rattle.layout.specs.Tests.{side_right, kinds_right, forms_right, rules_right};
 ghost use Rattle.refusals.specs.Refusals.{length_right, check_right, header_right, count_right, kinds_known, formulas_right, unused_right, design_refusal};
+ghost use Rattle.refusals.specs.Answered.{refusal_of};
 
+use crate::refusal::Refusal;
 use crate::{blocks, state_tests};
 use layout::{designs, sizes};
 
@@ -300,33 +302,33 @@ fn unused_right(s: &[u8]) -> bool
     rules_unused_right(s)
 }
 
-// The first of 1 to 8 that a design fails, and 0 where it passes all.
-pub fn design_refusal(s: &[u8]) -> u8
-    ensures { result ≡ design_refusal s.now }
+// The first of 1 to 8 that a design fails.
+pub fn design_refusal(s: &[u8]) -> Result<(), Refusal>
+    ensures { refusal_of result ≡ design_refusal s.now }
 {
     if !length_right(s) {
-        return 1;
+        return Err(Refusal::Length);
     }
     if !checks_right(s) {
-        return 2;
+        return Err(Refusal::BlockCheck);
     }
     if !headers_right(s) {
-        return 3;
+        return Err(Refusal::BlockHeader);
     }
     if !counts_right(s) {
-        return 4;
+        return Err(Refusal::RecordCount);
     }
     if !sides_right(s) {
-        return 5;
+        return Err(Refusal::State);
     }
     if !sides_kinds_right(s) {
-        return 6;
+        return Err(Refusal::StateKind);
     }
     if !formulas_right(s) {
-        return 7;
+        return Err(Refusal::Formula);
     }
     if !unused_right(s) {
-        return 8;
+        return Err(Refusal::UnusedByte);
     }
-    0
+    Ok(())
 }
