@@ -7,6 +7,8 @@ pub mod DesignBlocks
 pub mod DesignFormulas
 pub mod DesignUnused
 pub mod FourBlocks
+pub mod NodeRecords
+pub mod Ranges
 pub mod StateRecords
 pub mod StateTests
 pub mod FormulaTests

@@ -1,21 +1,26 @@
 -- Tests 5 and 6 of a state say what the model's predicates say.
-use mathlib.Core.Path.{◌≡◌, sym, subst, subst⁻¹}
+use mathlib.Core.Path.{◌≡◌, sym, ap, subst, subst⁻¹}
 use mathlib.Core.Bool.{Bool, false, ◌&&◌, ◌||◌}
 use mathlib.Core.Logic.{◌↔◌, ◌⊎◌, inl, inr, ⊎_elim}
 use mathlib.Core.List.{List, [], ◌∷◌, Memᴰ as In}
-use Prim.Native.Nat.{ℕ, ◌<◌}
+use Prim.Native.Nat.{ℕ, ◌≤◌, ◌<◌}
+use native.Mathlib.Omega.{arith}
 use lib.Dec.{T, T_not, not_T, eqb, leb, ltb, leb→le, le→leb, ltb→lt, lt→ltb, eqb→eq}
 use lib.IntN.{nat_abs}
 use lib.ListN.{length, get_or}
 use Rattle.model.specs.Events.{Event, tick, sent, same_event}
 use Rattle.model.specs.Sides.{Move, State, Side, state, no_move, any_sent, Kind, input, output_only, delayed, IsInput, IsOutputOnly, IsDelayed, IsKind, WellFormedState, HasKind}
+use Rattle.model.specs.Judged.{all}
 use Rattle.model.proofs.Bools.{and_both, both_and, or_either, or_left, or_right}
-use Rattle.model.proofs.Lists.{get_or_in, index_in}
+use Rattle.model.proofs.Lists.{all_in, get_or_in, index_in}
 use Rattle.model.proofs.SameEvent.{same_event_eq, same_event_refl, sent_and_tick}
 use Rattle.model.proofs.StateKinds.{sent_any, any_unsent}
-use Rattle.layout.specs.Sizes.{place_count}
+use Rattle.layout.specs.Sizes.{side_count, place_count}
 use Rattle.layout.specs.Tables.{table, table_from, every, distinct}
+use Rattle.layout.specs.Designs.{design, side, stored_state}
 use Rattle.layout.specs.Tests.{in_range, move, state_right, side_right, sends_or_waits, is_input, is_output_only, is_delayed, kind_right, kinds_right}
+use Rattle.layout.proofs.DesignBytes.{sides_length, stored_state_is}
+use Rattle.layout.proofs.RecordMoves.{moves_length}
 use Rattle.layout.proofs.Tables.{each_every, every_each, distinct_once, once_distinct, as_table}
 
 -- equal events pass their test, and only they
@@ -176,3 +181,12 @@ side_kinds_formed S = (
   λ t s h. (kind_formed (state S s)).0 (every_each (λ s. kind_right (state S s)) (length S) t s h),
   λ f. each_every (λ s. kind_right (state S s)) (length S) (λ s h. (kind_formed (state S s)).1 (f s h)),
 )
+
+-- ---- of a design's sides
+pub side_passes : (bs : List ℕ) → T (all side_right (design bs).sides) → (i : ℕ) → i < side_count → T (side_right (side (design bs) i))
+side_passes bs t i h = all_in side_right (get_or_in (design bs).sides i [] (omega (arith, sides_length bs))) t
+
+-- a stored state of a side that passes 5 has at most eight transitions
+pub stored_small : (bs : List ℕ) (i : ℕ) → i < side_count → T (side_right (side (design bs) i)) → (k : ℕ) → k < length (side (design bs) i) → (stored_state bs i k).count ≤ place_count
+stored_small bs i h t k l =
+    omega (arith, moves_length (stored_state bs i k), ap (λ (q : State). length q.moves) (stored_state_is bs i k h l), ((side_states_formed (side (design bs) i)).0 t k l).at_most_eight)

@@ -1,6 +1,6 @@
 -- Tests 5, 6 and 7 of a design's bytes say what the model's predicates say of the design that the bytes spell, and a design that is not refused is well
 -- formed.
-use mathlib.Core.Path.{◌≡◌, ap, subst, subst⁻¹}
+use mathlib.Core.Path.{◌≡◌, subst, subst⁻¹}
 use mathlib.Core.Bool.{◌&&◌}
 use mathlib.Core.Logic.{◌↔◌}
 use mathlib.Core.List.{List, [], Memᴰ as In}
@@ -8,7 +8,7 @@ use Prim.Native.Nat.{ℕ, ◌≤◌, ◌<◌}
 use native.Mathlib.Omega.{arith}
 use lib.Dec.{T}
 use lib.ListN.{length}
-use Rattle.model.specs.Sides.{State, Side, state, WellFormedState, HasKind, WellFormedSide}
+use Rattle.model.specs.Sides.{Side, state, WellFormedState, HasKind, WellFormedSide}
 use Rattle.model.specs.Formulas.{Lower, Propositions}
 use Rattle.model.specs.Designs.{WellFormed}
 use Rattle.model.specs.Judged.{all}
@@ -20,9 +20,8 @@ use Rattle.layout.specs.Designs.{held, Whole, design, side, stored_state}
 use Rattle.layout.specs.Tests.{side_right, kinds_right, forms_right, rules_right}
 use Rattle.refusals.specs.Counted.{Counted}
 use Rattle.refusals.specs.Refusals.{first_failing, length_right, check_right, header_right, count_right, unused_right, kinds_known, formulas_right, design_refusal}
-use Rattle.layout.proofs.DesignBytes.{sides_length, stored_state_is}
-use Rattle.layout.proofs.RecordMoves.{moves_length}
-use Rattle.refusals.proofs.StateTests.{side_states_formed, side_kinds_formed}
+use Rattle.layout.proofs.DesignBytes.{sides_length}
+use Rattle.refusals.proofs.StateTests.{side_states_formed, side_kinds_formed, side_passes, stored_small}
 use Rattle.refusals.proofs.FormulaTests.{formulas_formed, rules_formed}
 use Rattle.refusals.proofs.Passing.{passes}
 use Rattle.refusals.proofs.DesignBlocks.{length_whole}
@@ -144,5 +143,4 @@ pub side_formed : (bs : List ℕ) → design_refusal bs ≡ 0 → (i : ℕ) → 
 side_formed bs d i h = (well_formed bs d).each_side (side (design bs) i) (get_or_in (design bs).sides i [] (omega (arith, sides_length bs)))
 
 pub state_small : (bs : List ℕ) → design_refusal bs ≡ 0 → (i k : ℕ) → i < side_count → k < length (side (design bs) i) → (stored_state bs i k).count ≤ place_count
-state_small bs d i k h l =
-    omega (arith, moves_length (stored_state bs i k), ap (λ (q : State). length q.moves) (stored_state_is bs i k h l), ((side_formed bs d i h).each k l).at_most_eight)
+state_small bs d i k h l = stored_small bs i h (side_passes bs (passed bs d).states i h) k l

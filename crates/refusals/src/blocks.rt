@@ -21,10 +21,7 @@ pub fn header_right(s: &[u8], at: usize, kind: usize, first: u16) -> bool
     requires { at + block_bytes ≤ length s.now }
     ensures { (b : Block) → b.at ≡ at → b.kind ≡ kind → b.first ≡ first → result ≡ header_right s.now b }
 {
-    if words::read_byte(s, at) == kind {
-        return words::read_word(s, at + sizes::FIRST_IN_BLOCK) == first;
-    }
-    false
+    words::read_byte(s, at) == kind && words::read_word(s, at + sizes::FIRST_IN_BLOCK) == first
 }
 
 // Whether the record count of the block at `at` is within these limits.
@@ -32,11 +29,7 @@ pub fn count_right(s: &[u8], at: usize, least: usize, most: usize) -> bool
     requires { at + block_bytes ≤ length s.now }
     ensures { (b : Block) → b.at ≡ at → b.least ≡ least → b.most ≡ most → result ≡ count_right s.now b }
 {
-    let n = words::read_byte(s, at + sizes::COUNT_IN_BLOCK);
-    if least <= n {
-        return n <= most;
-    }
-    false
+    (least..=most).contains(&words::read_byte(s, at + sizes::COUNT_IN_BLOCK))
 }
 
 // Whether the unused bytes of the state record at `at` are zero.
@@ -44,18 +37,14 @@ pub fn state_unused_right(s: &[u8], at: usize) -> bool
     requires { at + state_bytes ≤ length s.now }
     ensures { result ≡ all_zero (unused state_record s.now at) }
 {
-    if words::read_byte(s, at + sizes::GAP_AT) != 0 {
-        return false;
-    }
     let n = words::read_byte(s, at + sizes::COUNT_AT);
-    if sizes::PLACES < n {
-        return true;
-    }
-    ranges::is_zero(
-        s,
-        at + sizes::PLACES_AT + sizes::MOVE_BYTES * n,
-        sizes::MOVE_BYTES * (sizes::PLACES - n),
-    )
+    words::read_byte(s, at + sizes::GAP_AT) == 0
+        && (sizes::PLACES < n
+            || ranges::is_zero(
+                s,
+                at + sizes::PLACES_AT + sizes::MOVE_BYTES * n,
+                sizes::MOVE_BYTES * (sizes::PLACES - n),
+            ))
 }
 
 // Whether the unused bytes of the formula record at `at` are zero: byte 3, and the operands that its kind doesn't have.
@@ -63,10 +52,7 @@ pub fn formula_unused_right(s: &[u8], at: usize) -> bool
     requires { at + formula_bytes ≤ length s.now }
     ensures { result ≡ all_zero (unused formula_record s.now at) }
 {
-    if words::read_byte(s, at + sizes::GAP_AT) != 0 {
-        return false;
-    }
-    formulas::read_formula(s, at).absent_right()
+    words::read_byte(s, at + sizes::GAP_AT) == 0 && formulas::read_formula(s, at).absent_right()
 }
 
 // Whether the bytes of the block at `at` behind so many bytes of records are zero.

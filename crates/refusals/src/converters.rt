@@ -1,10 +1,11 @@
 // A converter in memory: records of 52 bytes, one after the other; refusals 10 and 11, and what each record holds.
-ghost use Rattle.std.specs.Prelude.{◌≡◌, ◌&&◌, ◌+◌, ◌*◌, ◌<◌, ◌≤◌, ltb, length};
+ghost use Rattle.std.specs.Prelude.{◌≡◌, not, ◌&&◌, ◌+◌, ◌*◌, ◌<◌, ◌≤◌, ltb, length, get_or};
 ghost use Rattle.model.specs.Converters.{node, edge};
-ghost use Rattle.model.specs.Judged.{all};
+ghost use Rattle.model.specs.Judged.{all, same_events};
 ghost use Rattle.layout.specs.Sizes.{record_bytes, most_states, place_count};
+ghost use Rattle.layout.specs.Tables.{every};
 ghost use Rattle.layout.specs.Bytes.{all_zero};
-ghost use Rattle.layout.specs.Records.{node_of, edge_of};
+ghost use Rattle.layout.specs.Records.{no_transition, node_of, edge_of};
 ghost use Rattle.layout.specs.Unused.{place_gaps};
 ghost use Rattle.layout.specs.Converters.{records, converter};
 ghost use Rattle.layout.specs.Tests.{in_range, node_right};
@@ -61,79 +62,39 @@ pub fn edge_at(s: &[u8], c: usize, k: usize) -> Transition
 pub fn size_right(s: &[u8]) -> bool
     ensures { result ≡ size_right s.now }
 {
-    if s.len() == 0 {
-        return false;
-    }
-    if s.len() % sizes::RECORD_BYTES != 0 {
-        return false;
-    }
-    count(s) <= sizes::MOST_RECORDS
+    !s.is_empty() && s.len() % sizes::RECORD_BYTES == 0 && count(s) <= sizes::MOST_RECORDS
 }
 
 // Whether each is a number that a state can have.
 fn names_right(names: [u8; sizes::SIDES]) -> bool
     ensures { result ≡ all (λ s. ltb s most_states) names }
 {
-    let mut i = 0;
-    while i < sizes::SIDES {
-        if sizes::MOST_STATES <= names[i] as usize {
-            return false;
-        }
-        i += 1;
-    }
-    true
+    names.iter().all(|&s| usize::from(s) < sizes::MOST_STATES)
 }
 
 // Whether a transition has events in range and a next record that is there, of n.
 fn transition_right(t: Transition, n: usize) -> bool
     ensures { result ≡ (all in_range t.events && ltb t.next n) }
 {
-    let mut i = 0;
-    while i < sizes::SIDES {
-        if !events::in_range(t.events[i]) {
-            return false;
-        }
-        i += 1;
-    }
-    (t.next as usize) < n
+    t.events.iter().all(|&e| events::in_range(e)) && usize::from(t.next) < n
+}
+
+// Whether the events of place k stand at no earlier place.
+fn events_fresh(r: Record, k: usize) -> bool
+    requires { k < place_count }
+    ensures { result ≡ every k (λ j. not (same_events (get_or r.places j no_transition).events (get_or r.places k no_transition).events)) }
+{
+    (0..k).all(|j| r.places[j].events != r.places[k].events)
 }
 
 // Whether a record by itself is right, among n (11).
 fn node_right(r: Record, n: usize) -> bool
     ensures { result ≡ node_right n (node_of r) }
 {
-    let names = r.names;
-    if !names_right(names) {
-        return false;
-    }
-    let count = r.count as usize;
-    if count == 0 {
-        return false;
-    }
-    if sizes::PLACES < count {
-        return false;
-    }
-    let mut k = 0;
-    // The first k transitions are right, and no events stand twice among them.
-    while k < count {
-        let t = r.places[k];
-        if !transition_right(t, n) {
-            return false;
-        }
-        let seen = k as u8;
-        let places = r.places;
-        let before = Record {
-            names: names,
-            count: seen,
-            places: places,
-        };
-        let events = t.events;
-        if before.has(events) {
-            return false;
-        }
-        k += 1;
-    }
-    true
+    let count = usize::from(r.count);
+    names_right(r.names)
+        && (1..=sizes::PLACES).contains(&count)
+        && (0..count).all(|k| transition_right(r.places[k], n) && events_fresh(r, k))
 }
 
 // Whether the byte between the events and the next record is zero in each of the first n places of the record at `at`.
@@ -141,15 +102,7 @@ fn gaps_right(s: &[u8], at: usize, n: usize) -> bool
     requires { (at + record_bytes ≤ length s.now) × (n ≤ place_count) }
     ensures { result ≡ all_zero (place_gaps n s.now at) }
 {
-    let mut k = 0;
-    // It is in the first k.
-    while k < n {
-        if s[at + sizes::PLACES_AT + sizes::TRANSITION_BYTES * k + sizes::SIDES] != 0 {
-            return false;
-        }
-        k += 1;
-    }
-    true
+    (0..n).all(|k| { s[at + sizes::PLACES_AT + sizes::TRANSITION_BYTES * k + sizes::SIDES] == 0 })
 }
 
 // Whether the record at `at` is right, in a converter of n records (11).
@@ -158,18 +111,14 @@ pub fn record_right(s: &[u8], n: usize, at: usize) -> bool
     ensures { result ≡ record_right s.now n at }
 {
     let r = records::read_record(s, at);
-    if !node_right(r, n) {
-        return false;
-    }
-    let count = r.count as usize;
-    if !gaps_right(s, at, count) {
-        return false;
-    }
-    ranges::is_zero(
-        s,
-        at + sizes::PLACES_AT + sizes::TRANSITION_BYTES * count,
-        sizes::TRANSITION_BYTES * (sizes::PLACES - count),
-    )
+    let count = usize::from(r.count);
+    node_right(r, n)
+        && gaps_right(s, at, count)
+        && ranges::is_zero(
+            s,
+            at + sizes::PLACES_AT + sizes::TRANSITION_BYTES * count,
+            sizes::TRANSITION_BYTES * (sizes::PLACES - count),
+        )
 }
 
 // Whether all records are right (11).
@@ -177,15 +126,7 @@ pub fn records_right(s: &[u8]) -> bool
     ensures { result ≡ records_right s.now }
 {
     let n = count(s);
-    let mut k = 0;
-    // The first k records are right.
-    while k < n {
-        if !record_right(s, n, sizes::RECORD_BYTES * k) {
-            return false;
-        }
-        k += 1;
-    }
-    true
+    (0..n).all(|k| record_right(s, n, sizes::RECORD_BYTES * k))
 }
 
 // The first of 10 and 11 that bytes fail, which are then no converter.

@@ -19,10 +19,8 @@ use layout::{designs, sizes};
 fn length_right(s: &[u8]) -> bool
     ensures { result ≡ length_right s.now }
 {
-    if s.len() == sizes::BLOCK_BYTES * (sizes::LEAST_SIDES + sizes::OTHER_BLOCKS) {
-        return true;
-    }
-    s.len() == sizes::BLOCK_BYTES * (sizes::SIDES + sizes::OTHER_BLOCKS)
+    s.len() == sizes::BLOCK_BYTES * (sizes::LEAST_SIDES + sizes::OTHER_BLOCKS)
+        || s.len() == sizes::BLOCK_BYTES * (sizes::SIDES + sizes::OTHER_BLOCKS)
 }
 
 // ---- 2, 3, 4: block by block
@@ -37,29 +35,33 @@ struct Asked {
 
 const SIDE_KINDS: [usize; sizes::SIDES] = [1, 2, 6];
 
+const FORMULAS: Asked = Asked {
+    kind: 3,
+    least: 0,
+    most: sizes::MOST_FORMULAS,
+};
+
+const RULES: Asked = Asked {
+    kind: 4,
+    least: 0,
+    most: sizes::MOST_RULES,
+};
+
 // Of block i, where n sides have one: behind theirs stand the formulas, and the rules last.
 fn asked_at(n: usize, i: usize) -> Asked
     requires { (n ≤ side_count) × (i < n + other_blocks) }
     ensures { result ≡ asked_of (block n i) }
 {
     if i < n {
-        return Asked {
+        Asked {
             kind: SIDE_KINDS[i],
             least: 1,
             most: sizes::MOST_STATES,
-        };
-    }
-    if i == n {
-        return Asked {
-            kind: 3,
-            least: 0,
-            most: sizes::MOST_FORMULAS,
-        };
-    }
-    Asked {
-        kind: 4,
-        least: 0,
-        most: sizes::MOST_RULES,
+        }
+    } else if i == n {
+        FORMULAS
+    } else {
+        RULES
     }
 }
 
@@ -67,16 +69,8 @@ fn checks_right(s: &[u8]) -> bool
     requires { Whole s.now }
     ensures { result ≡ all (check_right s.now) (design_blocks (held s.now)) }
 {
-    let n = designs::held(s) + sizes::OTHER_BLOCKS;
-    let mut i = 0;
-    // The first i blocks are right.
-    while i < n {
-        if !blocks::check_right(s, sizes::BLOCK_BYTES * i) {
-            return false;
-        }
-        i += 1;
-    }
-    true
+    let n = designs::held(s);
+    (0..n + sizes::OTHER_BLOCKS).all(|i| blocks::check_right(s, sizes::BLOCK_BYTES * i))
 }
 
 fn headers_right(s: &[u8]) -> bool
@@ -84,15 +78,10 @@ fn headers_right(s: &[u8]) -> bool
     ensures { result ≡ all (header_right s.now) (design_blocks (held s.now)) }
 {
     let n = designs::held(s);
-    let mut i = 0;
-    // The first i blocks are right.
-    while i < n + sizes::OTHER_BLOCKS {
-        if !blocks::header_right(s, sizes::BLOCK_BYTES * i, asked_at(n, i).kind, 0) {
-            return false;
-        }
-        i += 1;
-    }
-    true
+    (0..n + sizes::OTHER_BLOCKS).all(|i| {
+        let asked = asked_at(n, i);
+        blocks::header_right(s, sizes::BLOCK_BYTES * i, asked.kind, 0)
+    })
 }
 
 fn counts_right(s: &[u8]) -> bool
@@ -100,16 +89,10 @@ fn counts_right(s: &[u8]) -> bool
     ensures { result ≡ all (count_right s.now) (design_blocks (held s.now)) }
 {
     let n = designs::held(s);
-    let mut i = 0;
-    // The first i blocks are right.
-    while i < n + sizes::OTHER_BLOCKS {
-        let a = asked_at(n, i);
-        if !blocks::count_right(s, sizes::BLOCK_BYTES * i, a.least, a.most) {
-            return false;
-        }
-        i += 1;
-    }
-    true
+    (0..n + sizes::OTHER_BLOCKS).all(|i| {
+        let asked = asked_at(n, i);
+        blocks::count_right(s, sizes::BLOCK_BYTES * i, asked.least, asked.most)
+    })
 }
 
 // ---- 5
@@ -120,30 +103,14 @@ fn side_right(s: &[u8], i: usize) -> bool
     ensures { result ≡ side_right (side (design s.now) i) }
 {
     let n = designs::state_count(s, i);
-    let mut k = 0;
-    // The first k states are right.
-    while k < n {
-        if !state_tests::state_right(designs::side_state(s, i, k), n) {
-            return false;
-        }
-        k += 1;
-    }
-    true
+    (0..n).all(|k| state_tests::state_right(designs::side_state(s, i, k), n))
 }
 
 fn sides_right(s: &[u8]) -> bool
     requires { Counted s.now }
     ensures { result ≡ all side_right (design s.now).sides }
 {
-    let mut i = 0;
-    // The first i sides are right.
-    while i < sizes::SIDES {
-        if !side_right(s, i) {
-            return false;
-        }
-        i += 1;
-    }
-    true
+    (0..sizes::SIDES).all(|i| side_right(s, i))
 }
 
 // ---- 6
@@ -153,30 +120,14 @@ fn side_kinds_right(s: &[u8], i: usize) -> bool
     ensures { result ≡ kinds_right (side (design s.now) i) }
 {
     let n = designs::state_count(s, i);
-    let mut k = 0;
-    // The first k states are right.
-    while k < n {
-        if !state_tests::kind_right(designs::side_state(s, i, k)) {
-            return false;
-        }
-        k += 1;
-    }
-    true
+    (0..n).all(|k| state_tests::kind_right(designs::side_state(s, i, k)))
 }
 
 fn sides_kinds_right(s: &[u8]) -> bool
     requires { Counted s.now × T (all side_right (design s.now).sides) }
     ensures { result ≡ all kinds_right (design s.now).sides }
 {
-    let mut i = 0;
-    // The first i sides are right.
-    while i < sizes::SIDES {
-        if !side_kinds_right(s, i) {
-            return false;
-        }
-        i += 1;
-    }
-    true
+    (0..sizes::SIDES).all(|i| side_kinds_right(s, i))
 }
 
 // ---- 7
@@ -185,16 +136,7 @@ fn each_formula_right(s: &[u8]) -> bool
     requires { Counted s.now }
     ensures { result ≡ (kinds_known s.now && forms_right (design s.now).forms) }
 {
-    let n = designs::formula_count(s);
-    let mut k = 0;
-    // The first k formulas are right.
-    while k < n {
-        if !designs::formula(s, k).is_right(k) {
-            return false;
-        }
-        k += 1;
-    }
-    true
+    (0..designs::formula_count(s)).all(|k| designs::formula(s, k).is_right(k))
 }
 
 fn each_rule_right(s: &[u8]) -> bool
@@ -202,26 +144,14 @@ fn each_rule_right(s: &[u8]) -> bool
     ensures { result ≡ rules_right (length (design s.now).forms) (design s.now).rules }
 {
     let formulas = designs::formula_count(s);
-    let n = designs::rule_count(s);
-    let mut k = 0;
-    // The first k rules name formulas.
-    while k < n {
-        if formulas <= designs::rule(s, k) {
-            return false;
-        }
-        k += 1;
-    }
-    true
+    (0..designs::rule_count(s)).all(|k| designs::rule(s, k) < formulas)
 }
 
 fn formulas_right(s: &[u8]) -> bool
     requires { Counted s.now }
     ensures { result ≡ formulas_right s.now }
 {
-    if each_formula_right(s) {
-        return each_rule_right(s);
-    }
-    false
+    each_formula_right(s) && each_rule_right(s)
 }
 
 // ---- 8
@@ -231,35 +161,18 @@ fn side_unused_right(s: &[u8], i: usize) -> bool
     requires { Counted s.now × (i < held s.now) }
     ensures { result ≡ unused_right s.now (side_block i) }
 {
+    let at = sizes::BLOCK_BYTES * i;
     let n = designs::state_count(s, i);
-    let mut k = 0;
-    // The first k records are right.
-    while k < n {
-        if !blocks::state_unused_right(
-            s,
-            sizes::BLOCK_BYTES * i + sizes::RECORDS_IN_BLOCK + sizes::STATE_BYTES * k,
-        ) {
-            return false;
-        }
-        k += 1;
-    }
-    blocks::behind_right(s, sizes::BLOCK_BYTES * i, sizes::STATE_BYTES * n)
+    (0..n).all(|k| {
+        blocks::state_unused_right(s, at + sizes::RECORDS_IN_BLOCK + sizes::STATE_BYTES * k)
+    }) && blocks::behind_right(s, at, sizes::STATE_BYTES * n)
 }
 
 fn sides_unused_right(s: &[u8]) -> bool
     requires { Counted s.now }
     ensures { result ≡ all (unused_right s.now) (take (held s.now) side_blocks) }
 {
-    let n = designs::held(s);
-    let mut i = 0;
-    // The first i blocks are right.
-    while i < n {
-        if !side_unused_right(s, i) {
-            return false;
-        }
-        i += 1;
-    }
-    true
+    (0..designs::held(s)).all(|i| side_unused_right(s, i))
 }
 
 fn formulas_unused_right(s: &[u8]) -> bool
@@ -268,18 +181,9 @@ fn formulas_unused_right(s: &[u8]) -> bool
 {
     let at = designs::formulas_at(s);
     let n = designs::formula_count(s);
-    let mut k = 0;
-    // The first k records are right.
-    while k < n {
-        if !blocks::formula_unused_right(
-            s,
-            at + sizes::RECORDS_IN_BLOCK + sizes::FORMULA_BYTES * k,
-        ) {
-            return false;
-        }
-        k += 1;
-    }
-    blocks::behind_right(s, at, sizes::FORMULA_BYTES * n)
+    (0..n).all(|k| {
+        blocks::formula_unused_right(s, at + sizes::RECORDS_IN_BLOCK + sizes::FORMULA_BYTES * k)
+    }) && blocks::behind_right(s, at, sizes::FORMULA_BYTES * n)
 }
 
 fn rules_unused_right(s: &[u8]) -> bool
@@ -293,13 +197,7 @@ fn unused_right(s: &[u8]) -> bool
     requires { Counted s.now }
     ensures { result ≡ all (unused_right s.now) (design_blocks (held s.now)) }
 {
-    if !sides_unused_right(s) {
-        return false;
-    }
-    if !formulas_unused_right(s) {
-        return false;
-    }
-    rules_unused_right(s)
+    sides_unused_right(s) && formulas_unused_right(s) && rules_unused_right(s)
 }
 
 // The first of 1 to 8 that a design fails.

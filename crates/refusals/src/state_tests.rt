@@ -17,46 +17,19 @@ fn event_fresh(q: StateRecord, k: usize) -> bool
     requires { k < place_count }
     ensures { result ≡ every k (λ j. not (same_event (get_or q.places j no_place).event (get_or q.places k no_place).event)) }
 {
-    let here = q.places[k];
-    let mut j = 0;
-    // It stands at none of the first j places.
-    while j < k {
-        let there = q.places[j];
-        if events::same(there.event, here.event) {
-            return false;
-        }
-        j += 1;
-    }
-    true
+    (0..k).all(|j| q.places[j].event != q.places[k].event)
 }
 
 // A state of a side that has n: 1 to 8 transitions, events in range and none twice, targets that are states.
 pub fn state_right(q: StateRecord, n: usize) -> bool
     ensures { result ≡ state_right n (state_of q) }
 {
-    let count = q.count as usize;
-    if count < 1 {
-        return false;
-    }
-    if sizes::PLACES < count {
-        return false;
-    }
-    let mut k = 0;
-    // The first k transitions are right.
-    while k < count {
-        let m = q.places[k];
-        if !events::in_range(m.event) {
-            return false;
-        }
-        if n <= m.target as usize {
-            return false;
-        }
-        if !event_fresh(q, k) {
-            return false;
-        }
-        k += 1;
-    }
-    true
+    let count = usize::from(q.count);
+    (1..=sizes::PLACES).contains(&count)
+        && (0..count).all(|k| {
+            let m = q.places[k];
+            events::in_range(m.event) && event_fresh(q, k) && usize::from(m.target) < n
+        })
 }
 
 // ---- 6
@@ -65,10 +38,7 @@ pub fn state_right(q: StateRecord, n: usize) -> bool
 pub fn sends_or_waits(m: Place, w: Place) -> bool
     ensures { result ≡ sends_or_waits (move_of m) (move_of w) }
 {
-    if !events::is_sent(m.event) {
-        return false;
-    }
-    events::same(w.event, 0)
+    events::is_sent(m.event) && w.event == 0
 }
 
 // Whether a state is input, output-only or delayed.
@@ -76,19 +46,8 @@ pub fn kind_right(q: StateRecord) -> bool
     requires { q.count ≤ place_count }
     ensures { result ≡ kind_right (state_of q) }
 {
-    if !sides::sends(q) {
-        return true;
-    }
-    if q.count == 1 {
-        return true;
-    }
-    if q.count != 2 {
-        return false;
-    }
-    let a = q.places[0];
-    let b = q.places[1];
-    if sends_or_waits(a, b) {
-        return true;
-    }
-    sends_or_waits(b, a)
+    let [a, b, ..] = q.places;
+    !sides::sends(q)
+        || q.count == 1
+        || q.count == 2 && (sends_or_waits(a, b) || sends_or_waits(b, a))
 }

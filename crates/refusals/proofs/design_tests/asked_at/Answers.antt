@@ -26,5 +26,5 @@ returns-then-i-n c =
 pub returns-then-i-n-2 : goal.returns-then-i-n-2
 returns-then-i-n-2 c = sym (ap asked_of (formulas_is c.args.n c.requires.0 c.args.i c.if-i-n-2.true))
 
-pub returns : goal.returns
-returns c = sym (ap asked_of (rules_is c.args.n c.requires.0 c.args.i (omega (arith, c.if-i-n-2.false))))
+pub returns-else-i-n-2 : goal.returns-else-i-n-2
+returns-else-i-n-2 c = sym (ap asked_of (rules_is c.args.n c.requires.0 c.args.i (omega (arith, c.if-i-n-2.false))))

@@ -1,14 +1,7 @@
 -- `design_tests::rules_unused_right` meets its contract: a rule has no unused byte.
 use mathlib.Core.Path.{sym, ap₂, ◌∙◌}
-use native.Mathlib.Omega.{arith}
 use Rattle.refusals.proofs.DesignUnused.{behind_zero, rules_unused}
 use Rattle.refusals.proofs.design_tests.rules_unused_right.Goals as goal
-
-pub behind_right-requires : goal.behind_right-requires
-behind_right-requires c =
-    let whole = c.requires.whole in
-    let few = c.requires.few_rules in
-    omega (arith, c.rule_count.ensures, c.rules_at.ensures, whole.at_most, whole.long)
 
 pub returns : goal.returns
 returns c =
