@@ -17,6 +17,7 @@ pub fn check_right(s: &[u8], at: usize) -> bool
 }
 
 // Whether the block at `at` has this kind and this first record.
+#[tactic(auto, using(std::proofs::lemmas::Bool::Decides::nat_tests), unfolding(crate::specs::Refusals::header_right))]
 pub fn header_right(s: &[u8], at: usize, kind: usize, first: u16) -> bool
     requires { at + block_bytes ≤ length s.now }
     ensures { (b : Block) → b.at ≡ at → b.kind ≡ kind → b.first ≡ first → result ≡ header_right s.now b }
@@ -25,6 +26,7 @@ pub fn header_right(s: &[u8], at: usize, kind: usize, first: u16) -> bool
 }
 
 // Whether the record count of the block at `at` is within these limits.
+#[tactic(auto, using(std::proofs::lemmas::Bool::Decides::nat_tests), unfolding(crate::specs::Refusals::count_right))]
 pub fn count_right(s: &[u8], at: usize, least: usize, most: usize) -> bool
     requires { at + block_bytes ≤ length s.now }
     ensures { (b : Block) → b.at ≡ at → b.least ≡ least → b.most ≡ most → result ≡ count_right s.now b }

@@ -59,6 +59,7 @@ pub fn edge_at(s: &[u8], c: usize, k: usize) -> Transition
 // ---- refusals 10 and 11
 
 // Whether there are 1 to 65,536 whole records (10).
+#[tactic(auto, using(std::proofs::lemmas::Bool::Decides::nat_tests), unfolding(crate::specs::Refusals::size_right))]
 pub fn size_right(s: &[u8]) -> bool
     ensures { result ≡ size_right s.now }
 {

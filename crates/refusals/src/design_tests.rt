@@ -16,6 +16,7 @@ use layout::{designs, sizes};
 // ---- 1
 
 // Whether the bytes are those of a block for each of two sides or of three, and of the two blocks behind them.
+#[tactic(auto, using(std::proofs::lemmas::Bool::Decides::nat_tests), unfolding(crate::specs::Refusals::length_right))]
 fn length_right(s: &[u8]) -> bool
     ensures { result ≡ length_right s.now }
 {
@@ -147,6 +148,7 @@ fn each_rule_right(s: &[u8]) -> bool
     (0..designs::rule_count(s)).all(|k| designs::rule(s, k) < formulas)
 }
 
+#[tactic(auto, using(std::proofs::lemmas::Bool::Decides::nat_tests), unfolding(crate::specs::Refusals::formulas_right))]
 fn formulas_right(s: &[u8]) -> bool
     requires { Counted s.now }
     ensures { result ≡ formulas_right s.now }
@@ -193,6 +195,7 @@ fn rules_unused_right(s: &[u8]) -> bool
     blocks::behind_right(s, designs::rules_at(s), designs::rule_count(s))
 }
 
+#[tactic(auto, using(std::proofs::lemmas::Bool::Decides::nat_tests, crate::proofs::DesignBlocks::sides_first))]
 fn unused_right(s: &[u8]) -> bool
     requires { Counted s.now }
     ensures { result ≡ all (unused_right s.now) (design_blocks (held s.now)) }

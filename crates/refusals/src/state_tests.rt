@@ -42,6 +42,7 @@ pub fn sends_or_waits(m: Place, w: Place) -> bool
 }
 
 // Whether a state is input, output-only or delayed.
+#[tactic(auto, using(std::proofs::lemmas::Bool::Decides::nat_tests, crate::proofs::StateRecords::kind_by_count))]
 pub fn kind_right(q: StateRecord) -> bool
     requires { q.count ≤ place_count }
     ensures { result ≡ kind_right (state_of q) }

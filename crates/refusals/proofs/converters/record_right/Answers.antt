@@ -13,7 +13,6 @@ use Rattle.refusals.specs.Refusals.{record_right}
 use Rattle.refusals.proofs.NodeRecords.{few_places}
 use Rattle.refusals.proofs.ZeroBytes.{zeros_append}
 use Rattle.refusals.proofs.converters.record_right.Goals as goal
-use Rattle.refusals.proofs.converters.record_right.Goals.{then-node_right, else-node_right}
 
 -- the unused bytes by the count
 by_count : (s : List ℕ) (at : ℕ)
@@ -25,31 +24,15 @@ pub gaps_right-requires : goal.gaps_right-requires
 gaps_right-requires c = (c.requires, grind (arith, nat_tests, few_places c.args.n c.read_record-r.result))
 
 pub overflow_sub-count : goal.overflow_sub-count
-overflow_sub-count c =
-    elim c.if-node_right.branch [
-      | then-node_right w ↦ grind (arith, nat_tests, few_places c.args.n c.read_record-r.result)
-      | else-node_right w ↦ grind (arith, nat_tests)
-    ]
+overflow_sub-count c = grind (arith, nat_tests, few_places c.args.n c.read_record-r.result)
 
 pub is_zero-requires : goal.is_zero-requires
-is_zero-requires c =
-    elim c.if-node_right.branch [
-      | then-node_right w ↦ grind (arith, nat_tests, few_places c.args.n c.read_record-r.result)
-      | else-node_right w ↦ grind (arith, nat_tests)
-    ]
+is_zero-requires c = grind (arith, nat_tests, few_places c.args.n c.read_record-r.result)
 
 pub returns-then-gaps_right : goal.returns-then-gaps_right
 unfolding record_right
-returns-then-gaps_right c =
-    elim c.if-node_right.branch [
-      | then-node_right w ↦ grind (arith, nat_tests, by_count c.args.s.now c.args.at)
-      | else-node_right w ↦ grind (arith, nat_tests)
-    ]
+returns-then-gaps_right c = grind (arith, nat_tests, by_count c.args.s.now c.args.at)
 
 pub returns-else-gaps_right : goal.returns-else-gaps_right
 unfolding record_right
-returns-else-gaps_right c =
-    elim c.if-node_right.branch [
-      | then-node_right w ↦ grind (arith, nat_tests, by_count c.args.s.now c.args.at)
-      | else-node_right w ↦ grind (arith, nat_tests)
-    ]
+returns-else-gaps_right c = grind (arith, nat_tests, by_count c.args.s.now c.args.at)

@@ -1,4 +1,5 @@
 -- `design_tests::side_unused_right` meets its contract: record by record, and the bytes behind.
+use mathlib.Core.Path.{◌≡◌}
 use Prim.Native.Nat.{◌+◌, ◌*◌, ◌<◌}
 use native.Mathlib.Omega.{arith}
 use borrow.Author.Tests.{tests}
@@ -7,22 +8,22 @@ use Rattle.std.proofs.lemmas.Bool.Decides.{nat_tests}
 use Rattle.layout.specs.Sizes.{side_count, block_bytes, records_in_block}
 use Rattle.layout.specs.Bytes.{all_zero}
 use Rattle.layout.specs.Unused.{state_record, size, unused}
-use Rattle.refusals.proofs.DesignUnused.{side_unused}
+use Rattle.refusals.proofs.DesignUnused.{records_zero, side_unused}
 use Rattle.refusals.proofs.Ranges.{every_from_all}
 use Rattle.refusals.proofs.design_tests.side_unused_right.Goals as goal
+use Rattle.refusals.proofs.design_tests.side_unused_right.Goals.{After-all}
+
+-- the test of the records
+each : (c : After-all) → c.all.result ≡ records_zero c.args.s.now state_record (block_bytes * c.args.i) c.state_count-n.result
+each c =
+    every_from_all (λ k. all_zero (unused state_record c.args.s.now (block_bytes * c.args.i + records_in_block + size state_record * k))) c.state_count-n.result _ _ _ c.all.ensures.ran (cc) (λ x b q k. search (rules, tests))
 
 pub returns-then-all : goal.returns-then-all
 returns-then-all c =
-    let s = c.args.s.now in
-    let i = c.args.i in
-    let there : i < side_count = omega (arith, c.requires.0.whole.at_most) in
-    let each = every_from_all (λ k. all_zero (unused state_record s (block_bytes * i + records_in_block + size state_record * k))) c.state_count-n.result _ _ _ c.all.ensures.ran (cc) (λ x b q k. search (rules, tests)) in
-    grind (arith, nat_tests, side_unused s i there c.requires.1, each)
+    let there : c.args.i < side_count = omega (arith, c.requires.0.whole.at_most) in
+    grind (arith, nat_tests, side_unused c.args.s.now c.args.i there c.requires.1, each (goal.at.returns-then-all c).After-all)
 
 pub returns-else-all : goal.returns-else-all
 returns-else-all c =
-    let s = c.args.s.now in
-    let i = c.args.i in
-    let there : i < side_count = omega (arith, c.requires.0.whole.at_most) in
-    let each = every_from_all (λ k. all_zero (unused state_record s (block_bytes * i + records_in_block + size state_record * k))) c.state_count-n.result _ _ _ c.all.ensures.ran (cc) (λ x b q k. search (rules, tests)) in
-    grind (arith, nat_tests, side_unused s i there c.requires.1, each)
+    let there : c.args.i < side_count = omega (arith, c.requires.0.whole.at_most) in
+    grind (arith, nat_tests, side_unused c.args.s.now c.args.i there c.requires.1, each (goal.at.returns-else-all c).After-all)
