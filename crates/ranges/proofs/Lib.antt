@@ -1,4 +1,5 @@
 -- To read first: `Promise`, what the answer of the call means in the model's words.
+pub mod EachNumber
 pub mod EntryLists
 pub mod EntryTests
 pub mod EntryRanges

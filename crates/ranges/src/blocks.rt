@@ -20,26 +20,25 @@ use layout::{blocks, designs, sizes, states};
 // The bytes of all states that a side may have.
 const STATES_BYTES: usize = sizes::STATE_BYTES * sizes::MOST_STATES;
 
+// The kind of the block of each side.
+const SIDE_KINDS: [u8; sizes::SIDES] = [1, 2, 6];
+
 // Count 0 of the state q in its place, and its later counts behind the n states that there are.
 fn replace(s: &mut [u8], n: usize, q: StateRecord, e: Entry)
     requires { (state_bytes * most_states ≤ length s.old) × (q.count ≤ place_count) × (e.state < n) × (n + last_count (range_of e) ≤ most_states) }
     ensures { s.new ≡ put (put s.old (state_bytes * e.state) (state_to (counted (range_of e) n (state_of q) 0))) (state_bytes * n) (states_to (counts (range_of e) n (state_of q) 1 (last_count (range_of e)))) }
 {
-    let last = entries::last_count(e);
     states::write_state(
         s,
-        sizes::STATE_BYTES * e.state as usize,
+        sizes::STATE_BYTES * usize::from(e.state),
         counting::counted(q, e, n, 0),
     );
-    let mut k = 0;
-    // Counts 1 to k are written.
-    while k < last {
+    for k in 0..entries::last_count(e) {
         states::write_state(
             s,
             sizes::STATE_BYTES * (n + k),
             counting::counted(q, e, n, k + 1),
         );
-        k += 1;
     }
 }
 
@@ -48,12 +47,8 @@ fn old_states(d: &[u8], i: usize, s: &mut [u8])
     requires { (design_refusal d.now ≡ 0) × (i < side_count) × (state_bytes * most_states ≤ length s.old) }
     ensures { s.new ≡ put s.old 0 (states_to (side (design d.now) i)) }
 {
-    let n = designs::state_count(d, i);
-    let mut k = 0;
-    // The first k are written.
-    while k < n {
+    for k in 0..designs::state_count(d, i) {
         states::write_state(s, sizes::STATE_BYTES * k, designs::side_state(d, i, k));
-        k += 1;
     }
 }
 
@@ -63,33 +58,16 @@ fn new_states(d: &[u8], list: &[u8], i: usize, s: &mut [u8]) -> usize
     ensures { (result ≡ length (new_side d.now list.now i)) × (s.new ≡ put s.old 0 (states_to (new_side d.now list.now i))) }
 {
     old_states(d, i, s);
-    let total = entries::count(list);
     let mut n = designs::state_count(d, i);
-    let mut j = 0;
     // The n states are those after the first j entries.
-    while j < total {
+    for j in 0..entries::count(list) {
         let e = entries::read_entry(list, j);
-        if e.side as usize == i {
-            replace(s, n, designs::side_state(d, i, e.state as usize), e);
+        if usize::from(e.side) == i {
+            replace(s, n, designs::side_state(d, i, usize::from(e.state)), e);
             n += entries::last_count(e);
         }
-        j += 1;
     }
     n
-}
-
-// The kind of the block of side i.
-fn kind_of(i: usize) -> u8
-    requires { i < side_count }
-    ensures { result ≡ (side_block i).kind }
-{
-    if i == 0 {
-        return 1;
-    }
-    if i == 1 {
-        return 2;
-    }
-    6
 }
 
 // The block of side i with these n states.
@@ -100,7 +78,7 @@ fn write_states(res: &mut [u8], i: usize, s: &[u8], n: usize)
     blocks::write(
         res,
         sizes::BLOCK_BYTES * i,
-        kind_of(i),
+        SIDE_KINDS[i],
         n as u8,
         0,
         s,
@@ -114,7 +92,7 @@ fn write_side(d: &[u8], list: &[u8], i: usize, res: &mut [u8])
     requires { (design_refusal d.now ≡ 0) × (list_right d.now list.now ≡ true) × (sides_fit d.now list.now ≡ true) × (i < side_count) × (block_bytes * i + block_bytes ≤ length res.old) }
     ensures { res.new ≡ put res.old (block_bytes * i) (ranged_block d.now list.now i) }
 {
-    let mut s: [u8; STATES_BYTES] = [0; STATES_BYTES];
+    let mut s = [0; STATES_BYTES];
     let n = new_states(d, list, i, &mut s);
     write_states(res, i, &s, n);
 }
@@ -124,11 +102,7 @@ pub fn write_sides(d: &[u8], list: &[u8], res: &mut [u8])
     requires { (design_refusal d.now ≡ 0) × (list_right d.now list.now ≡ true) × (sides_fit d.now list.now ≡ true) × (length d.now ≤ length res.old) }
     ensures { res.new ≡ put res.old 0 (flatten (table (held d.now) (ranged_block d.now list.now))) }
 {
-    let n = designs::held(d);
-    let mut i = 0;
-    // The blocks of the sides before i are written.
-    while i < n {
+    for i in 0..designs::held(d) {
         write_side(d, list, i, res);
-        i += 1;
     }
 }

@@ -15,10 +15,7 @@ use layout::{events, sizes};
 fn is_below(e: Entry, k: usize) -> bool
     ensures { result ≡ below k (range_of e).greatest }
 {
-    if e.greatest == entries::NO_GREATEST {
-        return true;
-    }
-    k < e.greatest as usize
+    e.greatest == entries::NO_GREATEST || k < usize::from(e.greatest)
 }
 
 // The number of the state to which a tick leads from count k.
@@ -26,11 +23,7 @@ fn onward(e: Entry, n: usize, k: usize) -> u8
     requires { (n ≤ most_states) × (k ≤ most_waits) }
     ensures { result ≡ onward (range_of e) n k }
 {
-    let last = entries::last_count(e);
-    if k < last {
-        return entries::count_number(e, n, k + 1);
-    }
-    entries::count_number(e, n, last)
+    entries::count_number(e, n, (k + 1).min(entries::last_count(e)))
 }
 
 // Whether count k keeps a transition with this event: a send from the least on, any other below the greatest.
@@ -38,9 +31,10 @@ fn keeps(e: Entry, k: usize, event: i8) -> bool
     ensures { result ≡ cond (sent event) (leb e.least k) (below k (range_of e).greatest) }
 {
     if events::is_sent(event) {
-        return e.least as usize <= k;
+        usize::from(e.least) <= k
+    } else {
+        is_below(e, k)
     }
-    is_below(e, k)
 }
 
 // A transition as count k has it: a send as it was, any other onward.
@@ -49,11 +43,12 @@ fn placed(e: Entry, n: usize, k: usize, m: Place) -> Place
     ensures { move_of result ≡ cond (sent m.event) (move_of m) (record { event = m.event; target = onward (range_of e) n k }) }
 {
     if events::is_sent(m.event) {
-        return m;
-    }
-    Place {
-        event: m.event,
-        target: onward(e, n, k),
+        m
+    } else {
+        Place {
+            event: m.event,
+            target: onward(e, n, k),
+        }
     }
 }
 
@@ -66,22 +61,19 @@ pub fn counted(q: StateRecord, e: Entry, n: usize, k: usize) -> StateRecord
         event: 0,
         target: 0,
     };
-    let total = q.count as usize;
     let mut places = [unused; sizes::PLACES];
     let mut kept = 0;
-    let mut p = 0;
-    // What stands for the first p transitions is in the first `kept` places.
-    while p < total {
+    // What stands for the transitions so far is in the first `kept` places.
+    for p in 0..usize::from(q.count) {
         let m = q.places[p];
         if keeps(e, k, m.event) {
             places[kept] = placed(e, n, k, m);
             kept += 1;
         }
-        p += 1;
     }
     StateRecord {
         label: q.label,
         count: kept as u8,
-        places: places,
+        places,
     }
 }

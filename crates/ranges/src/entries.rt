@@ -45,10 +45,11 @@ pub fn read_entry(entries: &[u8], j: usize) -> Entry
 pub fn last_count(e: Entry) -> usize
     ensures { result ≡ last_count (range_of e) }
 {
-    if e.greatest == NO_GREATEST {
-        return e.least as usize;
-    }
-    e.greatest as usize
+    usize::from(if e.greatest == NO_GREATEST {
+        e.least
+    } else {
+        e.greatest
+    })
 }
 
 // The number of count k, where the later counts stand from number n on.
@@ -57,7 +58,8 @@ pub fn count_number(e: Entry, n: usize, k: usize) -> u8
     ensures { result ≡ count_number (range_of e) n k }
 {
     if k == 0 {
-        return e.state;
+        e.state
+    } else {
+        (n + (k - 1)) as u8
     }
-    (n + (k - 1)) as u8
 }

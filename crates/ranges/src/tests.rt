@@ -19,38 +19,24 @@ use refusals::state_tests;
 fn sends_or_returns(k: usize, m: Place, w: Place) -> bool
     ensures { result ≡ sends_or_returns k (move_of m) (move_of w) }
 {
-    if !state_tests::sends_or_waits(m, w) {
-        return false;
-    }
-    w.target as usize == k
+    state_tests::sends_or_waits(m, w) && usize::from(w.target) == k
 }
 
 // Whether state number k is delayed with its tick to itself.
 fn waits_itself(q: StateRecord, k: usize) -> bool
     ensures { result ≡ waits_itself k (state_of q) }
 {
-    if q.count != 2 {
-        return false;
-    }
-    let a = q.places[0];
-    let b = q.places[1];
-    if sends_or_returns(k, a, b) {
-        return true;
-    }
-    sends_or_returns(k, b, a)
+    let [a, b, ..] = q.places;
+    q.count == 2 && (sends_or_returns(k, a, b) || sends_or_returns(k, b, a))
 }
 
 // Whether the counts of an entry are within their limits, and the least is not above the greatest.
 fn counts_right(e: Entry) -> bool
     ensures { result ≡ (leb e.least most_waits && (leb e.greatest most_waits || eqb e.greatest no_greatest) && leb e.least e.greatest) }
 {
-    if entries::MOST_WAITS < e.least {
-        return false;
-    }
-    if entries::MOST_WAITS < e.greatest {
-        return e.greatest == entries::NO_GREATEST;
-    }
-    e.least <= e.greatest
+    e.least <= entries::MOST_WAITS
+        && (e.greatest <= entries::MOST_WAITS || e.greatest == entries::NO_GREATEST)
+        && e.least <= e.greatest
 }
 
 // Whether an entry is right for the design.
@@ -58,18 +44,12 @@ fn entry_right(d: &[u8], e: Entry) -> bool
     requires { design_refusal d.now ≡ 0 }
     ensures { result ≡ entry_right (design d.now) e }
 {
-    let i = e.side as usize;
-    if sizes::SIDES <= i {
-        return false;
-    }
-    let k = e.state as usize;
-    if designs::state_count(d, i) <= k {
-        return false;
-    }
-    if !waits_itself(designs::side_state(d, i, k), k) {
-        return false;
-    }
-    counts_right(e)
+    let i = usize::from(e.side);
+    let k = usize::from(e.state);
+    i < sizes::SIDES
+        && k < designs::state_count(d, i)
+        && waits_itself(designs::side_state(d, i, k), k)
+        && counts_right(e)
 }
 
 // Whether none of the entries before entry j names its state.
@@ -78,18 +58,10 @@ fn fresh(list: &[u8], j: usize) -> bool
     ensures { result ≡ every j (λ i. not (same_state (entry_at list.now i) (entry_at list.now j))) }
 {
     let here = entries::read_entry(list, j);
-    let mut i = 0;
-    // None of the first i does.
-    while i < j {
+    (0..j).all(|i| {
         let there = entries::read_entry(list, i);
-        if there.side == here.side {
-            if there.state == here.state {
-                return false;
-            }
-        }
-        i += 1;
-    }
-    true
+        !(there.side == here.side && there.state == here.state)
+    })
 }
 
 // Whether the list is of whole entries, all right, none for a state that another names.
@@ -97,22 +69,9 @@ pub fn list_right(d: &[u8], list: &[u8]) -> bool
     requires { design_refusal d.now ≡ 0 }
     ensures { result ≡ list_right d.now list.now }
 {
-    if list.len() % entries::ENTRY_BYTES != 0 {
-        return false;
-    }
-    let n = entries::count(list);
-    let mut j = 0;
-    // The first j entries are right, and name no state twice.
-    while j < n {
-        if !entry_right(d, entries::read_entry(list, j)) {
-            return false;
-        }
-        if !fresh(list, j) {
-            return false;
-        }
-        j += 1;
-    }
-    true
+    list.len() % entries::ENTRY_BYTES == 0
+        && (0..entries::count(list))
+            .all(|j| entry_right(d, entries::read_entry(list, j)) && fresh(list, j))
 }
 
 // ---- 23
@@ -122,19 +81,16 @@ fn side_fits(d: &[u8], list: &[u8], i: usize) -> bool
     requires { (design_refusal d.now ≡ 0) × (i < side_count) }
     ensures { result ≡ leb (length (new_side d.now list.now i)) most_states }
 {
-    let total = entries::count(list);
     let mut n = designs::state_count(d, i);
-    let mut j = 0;
     // n is the number of states with the first j entries.
-    while j < total {
+    for j in 0..entries::count(list) {
         let e = entries::read_entry(list, j);
-        if e.side as usize == i {
+        if usize::from(e.side) == i {
             n += entries::last_count(e);
             if sizes::MOST_STATES < n {
                 return false;
             }
         }
-        j += 1;
     }
     true
 }
@@ -144,13 +100,5 @@ pub fn sides_fit(d: &[u8], list: &[u8]) -> bool
     requires { design_refusal d.now ≡ 0 }
     ensures { result ≡ sides_fit d.now list.now }
 {
-    let mut i = 0;
-    // The sides before i fit.
-    while i < sizes::SIDES {
-        if !side_fits(d, list, i) {
-            return false;
-        }
-        i += 1;
-    }
-    true
+    (0..sizes::SIDES).all(|i| side_fits(d, list, i))
 }

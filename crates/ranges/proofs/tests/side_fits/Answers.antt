@@ -15,7 +15,7 @@ use Rattle.ranges.specs.Entries.{entry_count, entry_at, range_of}
 use Rattle.ranges.proofs.EntryRanges.{last_small}
 use Rattle.ranges.proofs.EntryLists.{with_entries, with_none, count_next, not_named, count_grows}
 use Rattle.ranges.proofs.tests.side_fits.Goals as goal
-use Rattle.ranges.proofs.tests.side_fits.Goals.{then-e-i+else-n-gt-MOST_STATES, else-e-i}
+use Rattle.ranges.proofs.tests.side_fits.Goals.{then-from-i+else-n-gt-MOST_STATES, else-from-i}
 
 pub state_count-n-requires : goal.state_count-n-requires
 state_count-n-requires c = ((accepted_counts _ c.requires.0).whole, c.requires.1)
@@ -25,10 +25,10 @@ loop-j-init c =
     let a = c.args in
     let few = (accepted_counts _ c.requires.0).few_states a.i c.requires.1 in
     let n = c.state_count-n.ensures in
-    (search rules, omega arith, n ∙ sym (ap length (with_none (side (design a.d.now) a.i) a.list.now a.i)))
+    (omega arith, n ∙ sym (ap length (with_none (side (design a.d.now) a.i) a.list.now a.i)))
 
 pub read_entry-e-requires : goal.read_entry-e-requires
-read_entry-e-requires c = omega (arith, c.count-total.ensures)
+read_entry-e-requires c = omega (arith, c.count-j-end.ensures)
 
 -- how many states the side has with the first k entries
 abbrev states : List ℕ → List ℕ → ℕ → ℕ → ℕ
@@ -49,8 +49,8 @@ returns-then-n-gt-MOST_STATES c =
     let i = c.args.i in
     let l = c.loop-j in
     let all = entry_count es in
-    let total = c.count-total.ensures in
-    let m = more d es i l.j l.n c.last_count-n.result c.read_entry-e.result c.read_entry-e.ensures c.if-e-i.true l.invariant.2 c.last_count-n.ensures in
+    let total = c.count-j-end.ensures in
+    let m = more d es i l.j l.n c.last_count-n.result c.read_entry-e.result c.read_entry-e.ensures (sym c.from.ensures ∙ c.if-from-i.true) l.invariant.1 c.last_count-n.ensures in
     sym (lt-leb (states d es i all) most_states (omega (arith, m, count_grows (side (design d) i) es i (l.j + 1) all (omega arith))))
 
 pub loop-j-preserved : goal.loop-j-preserved
@@ -60,11 +60,11 @@ loop-j-preserved c =
     let i = c.args.i in
     let l = c.loop-j in
     let entry = c.read_entry-e in
-    elim c.if-e-i.branch [
-      | then-e-i+else-n-gt-MOST_STATES w ↦
-          (omega arith, omega (arith, w.n-is, w.if-n-gt-MOST_STATES.false), w.n-is ∙ sym (more d es i l.j l.n w.last_count-n.result entry.result entry.ensures w.if-e-i.true l.invariant.2 w.last_count-n.ensures))
-      | else-e-i w ↦
-          (omega arith, omega (arith, w.n-is), w.n-is ∙ l.invariant.2 ∙ sym (ap length (not_named (side (design d) i) es i l.j entry.result entry.ensures w.if-e-i.false)))
+    elim c.if-from-i.branch [
+      | then-from-i+else-n-gt-MOST_STATES w ↦
+          (omega (arith, w.n-is, w.if-n-gt-MOST_STATES.false), w.n-is ∙ sym (more d es i l.j l.n w.last_count-n.result entry.result entry.ensures (sym c.from.ensures ∙ w.if-from-i.true) l.invariant.1 w.last_count-n.ensures))
+      | else-from-i w ↦
+          (omega (arith, w.n-is), w.n-is ∙ l.invariant.1 ∙ sym (ap length (not_named (side (design d) i) es i l.j entry.result entry.ensures (λ e. w.if-from-i.false (c.from.ensures ∙ e)))))
     ]
 
 pub returns : goal.returns
@@ -73,7 +73,7 @@ returns c =
     let es = c.args.list.now in
     let i = c.args.i in
     let all = entry_count es in
-    let total = c.count-total.ensures in
+    let total = c.count-j-end.ensures in
     sym
     (le-leb (states d es i all) most_states
-    (omega (arith, c.loop-j.invariant.2, count_grows (side (design d) i) es i all c.loop-j.j (omega arith))))
+    (omega (arith, c.loop-j.invariant.1, count_grows (side (design d) i) es i all c.loop-j.j (omega arith))))

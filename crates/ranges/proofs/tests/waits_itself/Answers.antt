@@ -19,20 +19,15 @@ module _ (k : ℕ) (q : StateRecord) where
   unfolding waits_itself
   two_decides t = rw (moves_length q, eq-eqb q.count 2 t) (by_places (sends_or_returns k) q t)
 
-pub returns-then-q-ne2 : goal.returns-then-q-ne2
-returns-then-q-ne2 c = sym (other_fails _ _ c.if-q-ne2.true)
-
 pub returns-then-sends_or_returns : goal.returns-then-sends_or_returns
 returns-then-sends_or_returns c =
-    let q = c.args.q in
     let k = c.args.k in
-    sym (two_decides k q c.if-q-ne2.false ∙ ap (λ x. x || turned_round (sends_or_returns k) q) (sym c.sends_or_returns.ensures ∙ c.if-sends_or_returns.true))
+    c.if-sends_or_returns.true ∙ sym (two_decides k c.args.q c.if-q-eq2.true ∙ ap (λ x. x || turned_round (sends_or_returns k) c.args.q) (sym c.sends_or_returns.ensures ∙ c.if-sends_or_returns.true))
 
-pub returns : goal.returns
-returns c =
-    let q = c.args.q in
+pub returns-else-sends_or_returns : goal.returns-else-sends_or_returns
+returns-else-sends_or_returns c =
     let k = c.args.k in
-    sym
-    (two_decides k q c.if-q-ne2.false
-    ∙ ap (λ x. x || turned_round (sends_or_returns k) q) (sym c.sends_or_returns.ensures ∙ c.if-sends_or_returns.false)
-    ∙ sym c.sends_or_returns-2.ensures)
+    c.sends_or_returns-else-sends_or_returns.ensures ∙ sym (two_decides k c.args.q c.if-q-eq2.true ∙ ap (λ x. x || turned_round (sends_or_returns k) c.args.q) (sym c.sends_or_returns.ensures ∙ c.if-sends_or_returns.false))
+
+pub returns-else-q-eq2 : goal.returns-else-q-eq2
+returns-else-q-eq2 c = ne_eqb c.args.q.count 2 c.if-q-eq2.false ∙ sym (other_fails c.args.k c.args.q c.if-q-eq2.false)
