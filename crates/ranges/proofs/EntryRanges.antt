@@ -1,33 +1,49 @@
 -- The range of an entry, where it has a greatest count and where it has none.
-use mathlib.Core.Path.{◌≡◌, ap}
-use mathlib.Core.Bool.{Bool, cond}
-use Prim.Native.Nat.{◌<◌}
-use native.Mathlib.Decide.{ℕ_discrete}
+use mathlib.Core.Path.{◌≡◌, refl, ap, ◌∙◌}
+use mathlib.Core.Bool.{Bool, true, false, cond}
+use Prim.Native.Nat.{ℕ, ◌<◌}
 use native.Mathlib.Omega.{arith}
-use borrow.Author.Tests.{eq-eqb, ne_eqb}
-use Rattle.model.specs.Ranges.{up_to, none, last_count}
+use lib.Dec.{eqb, ltb}
+use Rattle.std.proofs.Common.{Option, None, Some}
+use Rattle.std.specs.Option.{unwrap_or}
+use Rattle.model.specs.Ranges.{up_to, none, Range, Greatest, last_count, below}
 use Rattle.ranges.specs.declared.entries.Entry.{Entry}
 use Rattle.ranges.specs.Entries.{no_greatest, range_of}
 
+-- a greatest count as the code has it, and as the model has it
+abbrev pub greatest_in : Entry → Option ℕ
+greatest_in e = cond (eqb e.greatest no_greatest) None (Some e.greatest)
+
+-- count k is below a greatest, where there is one
+abbrev pub below_in : ℕ → Option ℕ → Bool
+below_in k None = true
+below_in k (Some g) = ltb k g
+
 module _ (e : Entry) where
-  pub without_greatest : e.greatest ≡ no_greatest → (range_of e).greatest ≡ none
-  unfolding range_of
-  without_greatest h = ap (λ (b : Bool). cond b none (up_to e.greatest)) (eq-eqb e.greatest no_greatest h)
+  of_range : (b : Bool) → Range
+  of_range b = record { state = e.state; least = e.least; greatest = cond b none (up_to e.greatest) }
 
-  pub with_greatest : (e.greatest ≡ no_greatest → ⊥) → (range_of e).greatest ≡ up_to e.greatest
-  unfolding range_of
-  with_greatest h = ap (λ (b : Bool). cond b none (up_to e.greatest)) (ne_eqb e.greatest no_greatest h)
+  pub last_told : unwrap_or (greatest_in e) e.least ≡ last_count (range_of e)
+  unfolding range_of of_range
+  last_told = by (eqb e.greatest no_greatest)
+    where
+      by : (b : Bool) → unwrap_or (cond b None (Some e.greatest)) e.least ≡ last_count (of_range b)
+      by true = refl
+      by false = refl
 
-  -- the last count, likewise
-  pub last_without : e.greatest ≡ no_greatest → last_count (range_of e) ≡ e.least
+  pub below_told : (k : ℕ) → below_in k (greatest_in e) ≡ below k (range_of e).greatest
   unfolding range_of
-  last_without h = rw (without_greatest h)
-
-  pub last_with : (e.greatest ≡ no_greatest → ⊥) → last_count (range_of e) ≡ e.greatest
-  unfolding range_of
-  last_with h = rw (with_greatest h)
+  below_told k = by (eqb e.greatest no_greatest)
+    where
+      by : (b : Bool) → below_in k (cond b None (Some e.greatest)) ≡ below k (cond b none (up_to e.greatest))
+      by true = refl
+      by false = refl
 
   -- it fits a byte
   pub last_small : e.least < 256 → e.greatest < 256 → last_count (range_of e) < 256
-  last_small l g =
-      elim (ℕ_discrete e.greatest no_greatest) [ yes h ↦ omega (arith, last_without h) | no n ↦ omega (arith, last_with n) ]
+  unfolding range_of of_range
+  last_small l g = by (eqb e.greatest no_greatest)
+    where
+      by : (b : Bool) → last_count (of_range b) < 256
+      by true = l
+      by false = g

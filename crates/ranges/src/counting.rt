@@ -15,7 +15,7 @@ use layout::{events, sizes};
 fn is_below(e: Entry, k: usize) -> bool
     ensures { result ≡ below k (range_of e).greatest }
 {
-    e.greatest == entries::NO_GREATEST || k < usize::from(e.greatest)
+    entries::greatest(e).is_none_or(|g| k < usize::from(g))
 }
 
 // The number of the state to which a tick leads from count k.
@@ -64,10 +64,9 @@ pub fn counted(q: StateRecord, e: Entry, n: usize, k: usize) -> StateRecord
     let mut places = [unused; sizes::PLACES];
     let mut kept = 0;
     // What stands for the transitions so far is in the first `kept` places.
-    for p in 0..usize::from(q.count) {
-        let m = q.places[p];
+    for m in &q.places[..usize::from(q.count)] {
         if keeps(e, k, m.event) {
-            places[kept] = placed(e, n, k, m);
+            places[kept] = placed(e, n, k, *m);
             kept += 1;
         }
     }

@@ -1,8 +1,8 @@
 // The lent list: four bytes an entry.
-ghost use Rattle.std.specs.Prelude.{◌≡◌, ◌<◌, ◌≤◌};
+ghost use Rattle.std.specs.Prelude.{◌≡◌, cond, ◌<◌, ◌≤◌, eqb, None, Some};
 ghost use Rattle.model.specs.Ranges.{last_count, count_number};
 ghost use Rattle.layout.specs.Sizes.{most_states};
-ghost use Rattle.ranges.specs.Entries.{entry_count, entry_at, range_of};
+ghost use Rattle.ranges.specs.Entries.{no_greatest, entry_count, entry_at, range_of};
 
 // Bytes of an entry, the most waits that a count may be, and what stands for no greatest.
 pub const ENTRY_BYTES: usize = 4;
@@ -41,15 +41,22 @@ pub fn read_entry(entries: &[u8], j: usize) -> Entry
     }
 }
 
+// The greatest count, where there is one.
+pub fn greatest(e: Entry) -> Option<u8>
+    ensures { result ≡ cond (eqb e.greatest no_greatest) None (Some e.greatest) }
+{
+    if e.greatest == NO_GREATEST {
+        None
+    } else {
+        Some(e.greatest)
+    }
+}
+
 // The last count that has a state: with no greatest it is the least.
 pub fn last_count(e: Entry) -> usize
     ensures { result ≡ last_count (range_of e) }
 {
-    usize::from(if e.greatest == NO_GREATEST {
-        e.least
-    } else {
-        e.greatest
-    })
+    usize::from(greatest(e).unwrap_or(e.least))
 }
 
 // The number of count k, where the later counts stand from number n on.
@@ -57,9 +64,5 @@ pub fn count_number(e: Entry, n: usize, k: usize) -> u8
     requires { (n ≤ most_states) × (k ≤ most_states) }
     ensures { result ≡ count_number (range_of e) n k }
 {
-    if k == 0 {
-        e.state
-    } else {
-        (n + (k - 1)) as u8
-    }
+    if k == 0 { e.state } else { (n + (k - 1)) as u8 }
 }

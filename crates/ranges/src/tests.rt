@@ -70,8 +70,8 @@ pub fn list_right(d: &[u8], list: &[u8]) -> bool
     ensures { result ≡ list_right d.now list.now }
 {
     list.len() % entries::ENTRY_BYTES == 0
-        && (0..entries::count(list))
-            .all(|j| entry_right(d, entries::read_entry(list, j)) && fresh(list, j))
+        && (0..entries::count(list)).all(|j| entry_right(d, entries::read_entry(list, j))
+            && fresh(list, j))
 }
 
 // ---- 23

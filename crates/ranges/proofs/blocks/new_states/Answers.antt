@@ -27,7 +27,7 @@ use Rattle.ranges.proofs.NewSides.{few_with}
 use Rattle.ranges.proofs.OneEntry.{side_with, named, named_yet, still, room_for}
 use borrow.Author.Rules.{rules}
 use Rattle.ranges.proofs.blocks.new_states.Goals as goal
-use Rattle.ranges.proofs.blocks.new_states.Goals.{At-loop-j, In-loop-j, then-e-i, else-e-i}
+use Rattle.ranges.proofs.blocks.new_states.Goals.{At-loop-j, In-loop-j, then-from-i, else-from-i}
 
 pub old_states-requires : goal.old_states-requires
 old_states-requires c = (c.requires.0, c.requires.3, c.requires.4)
@@ -42,18 +42,16 @@ loop-j-init c =
     let few = (accepted_counts _ c.requires.0).few_states c.args.i c.requires.3 in
     let put_old = c.old_states.ensures in
     let b = c.args.s.now in (
-      search rules,
       c.state_count-n.ensures,
-      refl,
       put_old ∙ sym (ap (λ l. put l 0 (states_to S)) put_old ∙ put_again (states_to S) (states_to S) b (omega arith) (omega (arith, length_states S, c.requires.4))),
     )
 
 -- all along there are as many bytes as were lent
 long : (c : At-loop-j) → length c.loop-j.s ≡ length c.args.s.now
-long c = c.loop-j.invariant.2 ∙ c.old_states.auto.s
+long c = c.loop-j.auto.s ∙ c.old_states.auto.s
 
 in_list : (c : In-loop-j) → c.loop-j.j < entry_count c.args.list.now
-in_list c = omega (arith, c.count-total.ensures)
+in_list c = omega (arith, c.count-j-end.ensures)
 
 pub read_entry-e-requires : goal.read_entry-e-requires
 read_entry-e-requires c = in_list (goal.at.read_entry-e-requires c).In-loop-j
@@ -87,7 +85,7 @@ side_state-requires c =
     let a = c.args in
     let r = c.read_entry-e in
     let l = in_list (goal.at.side_state-requires c).In-loop-j in
-    ((accepted_counts _ c.requires.0).whole, c.requires.3, own_few a.d.now a.list.now a.i c.loop-j.j r.result r.ensures c.requires.1 l c.if-e-i.true c.requires.0 c.requires.3)
+    ((accepted_counts _ c.requires.0).whole, c.requires.3, omega (arith, c.from-then-from-i.ensures, own_few a.d.now a.list.now a.i c.loop-j.j r.result r.ensures c.requires.1 l (sym c.from.ensures ∙ c.if-from-i.true) c.requires.0 c.requires.3))
 
 pub replace-requires : goal.replace-requires
 replace-requires c =
@@ -97,11 +95,11 @@ replace-requires c =
     let h = c.loop-j in
     let r = c.read_entry-e in
     let l = in_list (goal.at.replace-requires c).In-loop-j in
-    let few = state_small d c.requires.0 i r.result.state c.requires.3 (own_there d es i h.j r.result r.ensures c.requires.1 l c.if-e-i.true) in (
+    let few = state_small d c.requires.0 i r.result.state c.requires.3 (own_there d es i h.j r.result r.ensures c.requires.1 l (sym c.from.ensures ∙ c.if-from-i.true)) in (
       omega (arith, long (goal.at.replace-requires c).At-loop-j, c.requires.4),
-      omega (arith, ap (λ (q : StateRecord). q.count) c.side_state.ensures, few),
-      own_yet d es i h.j r.result r.ensures c.requires.1 l c.if-e-i.true h.n h.invariant.1,
-      own_room d es i h.j r.result r.ensures c.requires.1 l c.if-e-i.true h.n h.invariant.1 c.requires.2 c.requires.3,
+      omega (arith, ap (λ (q : StateRecord). q.count) (c.side_state.ensures ∙ ap (stored_state d i) c.from-then-from-i.ensures), few),
+      own_yet d es i h.j r.result r.ensures c.requires.1 l (sym c.from.ensures ∙ c.if-from-i.true) h.n h.invariant.0,
+      own_room d es i h.j r.result r.ensures c.requires.1 l (sym c.from.ensures ∙ c.if-from-i.true) h.n h.invariant.0 c.requires.2 c.requires.3,
     )
 
 pub overflow_add-n : goal.overflow_add-n
@@ -110,7 +108,7 @@ overflow_add-n c =
     let h = c.loop-j in
     let r = c.read_entry-e in
     let l = in_list (goal.at.overflow_add-n c).In-loop-j in
-    omega (arith, own_room a.d.now a.list.now a.i h.j r.result r.ensures c.requires.1 l c.if-e-i.true h.n h.invariant.1 c.requires.2 c.requires.3, c.last_count-n.ensures)
+    omega (arith, own_room a.d.now a.list.now a.i h.j r.result r.ensures c.requires.1 l (sym c.from.ensures ∙ c.if-from-i.true) h.n h.invariant.0 c.requires.2 c.requires.3, c.last_count-n.ensures)
 
 pub loop-j-preserved : goal.loop-j-preserved
 unfolding range_of
@@ -125,40 +123,38 @@ loop-j-preserved c =
     let s₀ = c.old_states.new.s in
     let listed = in_list (goal.at.loop-j-preserved c).In-loop-j in
     let lasts = long (goal.at.loop-j-preserved c).At-loop-j in
-    elim c.if-e-i.branch [
-      | then-e-i w ↦
-          (let own = w.if-e-i.true in
+    elim c.if-from-i.branch [
+      | then-from-i w ↦
+          (let own = sym c.from.ensures ∙ w.if-from-i.true in
           let r = range_of e in
           let replaces = named_next (side (design d) i) es i h.j e read own in
-          let q = is_state d es i h.j e read c.requires.1 listed own w.side_state.result w.side_state.ensures c.requires.3 ∙ sym (still d es i h.j e read c.requires.1 listed own) in
+          let q = is_state d es i h.j e read c.requires.1 listed own w.side_state.result (w.side_state.ensures ∙ ap (stored_state d i) w.from-then-from-i.ensures) c.requires.3 ∙ sym (still d es i h.j e read c.requires.1 listed own) in
           let put_counts : List ℕ → State → ℕ → List ℕ =
           λ b x n. put (put b (state_bytes * e.state) (state_to (counted r n x 0))) (state_bytes * n) (states_to (counts r n x 1 (last_count r))) in
           let there = named_yet d es i h.j e read c.requires.1 listed own in
           let room = room_for d es i h.j e read c.requires.1 listed own c.requires.2 c.requires.3 in (
-            omega arith,
-            w.n-is ∙ ap₂ ◌+◌ h.invariant.1 w.last_count-n.ensures ∙ sym (ap length replaces ∙ length_replaced R r),
-            ap length w.s-is ∙ w.replace.auto.s ∙ h.invariant.2,
+            w.n-is ∙ ap₂ ◌+◌ h.invariant.0 w.last_count-n.ensures ∙ sym (ap length replaces ∙ length_replaced R r),
             w.s-is ∙ w.replace.ensures
-                ∙ ap₂ (λ b x. put_counts b x h.n) h.invariant.3 q
-                ∙ ap (put_counts (put s₀ 0 (states_to R)) (state R e.state)) h.invariant.1
-                ∙ replaced_put s₀ R r there (omega (arith, room, h.invariant.2, lasts, c.requires.4))
+                ∙ ap₂ (λ b x. put_counts b x h.n) h.invariant.1 q
+                ∙ ap (put_counts (put s₀ 0 (states_to R)) (state R e.state)) h.invariant.0
+                ∙ replaced_put s₀ R r there (omega (arith, room, h.auto.s, lasts, c.requires.4))
                 ∙ ap (λ S. put s₀ 0 (states_to S)) (sym replaces),
           ))
-      | else-e-i w ↦
-          (let same = not_named (side (design d) i) es i h.j e read w.if-e-i.false in
-          (omega arith, w.n-is ∙ h.invariant.1 ∙ ap length (sym same), ap length w.s-is ∙ h.invariant.2, w.s-is ∙ h.invariant.3 ∙ ap (λ S. put s₀ 0 (states_to S)) (sym same)))
+      | else-from-i w ↦
+          (let same = not_named (side (design d) i) es i h.j e read (λ x. w.if-from-i.false (c.from.ensures ∙ x)) in
+          (w.n-is ∙ h.invariant.0 ∙ ap length (sym same), w.s-is ∙ h.invariant.1 ∙ ap (λ S. put s₀ 0 (states_to S)) (sym same)))
     ]
 
 pub returns : goal.returns
 returns c =
     let old = side (design c.args.d.now) c.args.i in
     let new = new_side c.args.d.now c.args.list.now c.args.i in
-    let all : c.loop-j.j ≡ entry_count c.args.list.now = omega (arith, c.count-total.ensures) in
+    let all : c.loop-j.j ≡ entry_count c.args.list.now = omega (arith, c.count-j-end.ensures) in
     let done = ap (side_with c.args.d.now c.args.list.now c.args.i) all in
     let b = c.args.s.now in
     let few = few_with c.args.d.now c.args.list.now c.requires.2 c.args.i c.requires.3 in (
-      c.loop-j.invariant.1 ∙ ap length done,
-      c.loop-j.invariant.3
+      c.loop-j.invariant.0 ∙ ap length done,
+      c.loop-j.invariant.1
           ∙ ap₂ (λ x S. put x 0 (states_to S)) c.old_states.ensures done
           ∙ put_again (states_to old) (states_to new) b
           (omega (arith, length_states old, length_states new, length_ranged old (side_ranges c.args.list.now c.args.i))) (omega (arith, length_states new, few, c.requires.4)),

@@ -1,5 +1,4 @@
 use mathlib.Core.Path.{◌≡◌}
-use Prim.Native.Nat.{◌-◌, ◌≤◌}
 use lib.ListN.{length}
 use Rattle.layout.specs.Bytes.{put}
 use Rattle.ranges.specs.Ranges.{states_to}
@@ -8,7 +7,4 @@ use Rattle.ranges.proofs.blocks.new_states.Given as goal
 
 abbrev pub invariant-loop-j : goal.invariant-loop-j
 invariant-loop-j l =
-    (l.j ≤ l.total) × (l.n ≡ length (side_with l.d l.list l.i l.j)) × (length l.s ≡ length l.initial.s) × (l.s ≡ put l.initial.s 0 (states_to (side_with l.d l.list l.i l.j)))
-
-abbrev pub decreases-loop-j : goal.decreases-loop-j
-decreases-loop-j l = l.total - l.j
+    (l.n ≡ length (side_with l.d l.list l.i l.j)) × (l.s ≡ put l.initial.s 0 (states_to (side_with l.d l.list l.i l.j)))

@@ -22,8 +22,7 @@ write_state-requires c = omega (arith, c.requires.0, c.requires.2, c.requires.3)
 pub loop-k-init : goal.loop-k-init
 unfolding states_to counts flatten
 loop-k-init c =
-    let room : state_bytes * most_states ≤ length c.write_state.new.s = omega (arith, c.write_state.auto.s, c.requires.0) in
-    (search rules, omega (arith, c.last_count-last.ensures, c.requires.3), room, refl, sym (put_nil c.write_state.new.s (state_bytes * c.args.n) (omega (arith, c.requires.3))))
+    sym (put_nil c.write_state.new.s (state_bytes * c.args.n) (omega (arith, c.write_state.auto.s, c.requires.0, c.requires.3)))
 
 pub loop-k-preserved : goal.loop-k-preserved
 loop-k-preserved c =
@@ -34,25 +33,20 @@ loop-k-preserved c =
     let done = counts r a.n (state_of a.q) 1 l.k in
     let next = counted r a.n (state_of a.q) (l.k + 1) in
     let at : state_bytes * (a.n + l.k) ≡ state_bytes * a.n + state_bytes * l.k = omega arith in
-    let one : 1 + l.k ≡ l.k + 1 = omega arith in (
-      omega arith,
-      l.invariant.1,
-      l.invariant.2,
-      c.write_state-in-loop-k.auto.s ∙ l.invariant.3,
-      c.write_state-in-loop-k.ensures
-          ∙ ap₂ (λ b q. put b (state_bytes * (a.n + l.k)) (state_to q)) l.invariant.4 c.counted-in-loop-k.ensures.0
-          ∙ ap (λ i. put (put s₀ (state_bytes * a.n) (states_to done)) i (state_to next)) at
-          ∙ states_more s₀ (state_bytes * a.n) l.k done next (length_counts r a.n (state_of a.q) 1 l.k) (omega arith)
-          ∙ ap (λ S. put s₀ (state_bytes * a.n) (states_to S)) (sym (counts_more r a.n (state_of a.q) 1 l.k ∙ ap (λ i. done ++ (counted r a.n (state_of a.q) i ∷ [])) one)),
-    )
+    let one : 1 + l.k ≡ l.k + 1 = omega arith in
+    c.write_state-in-loop-k.ensures
+    ∙ ap₂ (λ b q. put b (state_bytes * (a.n + l.k)) (state_to q)) l.invariant c.counted-in-loop-k.ensures.0
+    ∙ ap (λ i. put (put s₀ (state_bytes * a.n) (states_to done)) i (state_to next)) at
+    ∙ states_more s₀ (state_bytes * a.n) l.k done next (length_counts r a.n (state_of a.q) 1 l.k) (omega arith)
+    ∙ ap (λ S. put s₀ (state_bytes * a.n) (states_to S)) (sym (counts_more r a.n (state_of a.q) 1 l.k ∙ ap (λ i. done ++ (counted r a.n (state_of a.q) i ∷ [])) one))
 
 pub returns : goal.returns
 returns c =
     let l = c.loop-k in
     let a = c.args in
     let r = range_of a.e in
-    let all : l.k ≡ last_count r = omega (arith, c.last_count-last.ensures) in
-    l.invariant.4
+    let all : l.k ≡ last_count r = omega (arith, c.last_count-k-end.ensures) in
+    l.invariant
     ∙ ap₂ (λ b m. put b (state_bytes * a.n) (states_to (counts r a.n (state_of a.q) 1 m)))
-    (c.write_state.ensures ∙ ap (λ q. put a.s.now (state_bytes * a.e.state) (state_to q)) c.counted.ensures.0)
+    (c.write_state.ensures ∙ ap₂ (λ i q. put a.s.now (state_bytes * i) (state_to q)) c.from.ensures c.counted.ensures.0)
     all

@@ -20,40 +20,37 @@ use Rattle.ranges.proofs.blocks.write_sides.Goals.{Start}
 whole : (c : Start) → Whole c.args.d.now
 whole c = (accepted_counts c.args.d.now c.requires.0).whole
 
-pub held-n-requires : goal.held-n-requires
-held-n-requires c = whole (goal.at.held-n-requires c).Start
+pub held-i-end-requires : goal.held-i-end-requires
+held-i-end-requires c = whole (goal.at.held-i-end-requires c).Start
 
 pub loop-i-init : goal.loop-i-init
 unfolding table table_from flatten
-loop-i-init c = (search rules, refl, sym (put_nil _ 0 (omega arith)))
+loop-i-init c = sym (put_nil _ 0 (omega arith))
 
 pub write_side-requires : goal.write_side-requires
 write_side-requires c =
     let w = whole (goal.at.write_side-requires c).Start in
-    let n = c.held-n.ensures in
-    (c.requires.0, c.requires.1, c.requires.2, omega (arith, n, w.at_most), omega (arith, n, w.long, c.requires.3, c.loop-i.invariant.1))
+    let n = c.held-i-end.ensures in
+    (c.requires.0, c.requires.1, c.requires.2, omega (arith, n, w.at_most), omega (arith, n, w.long, c.requires.3, c.loop-i.auto.res))
 
 pub loop-i-preserved : goal.loop-i-preserved
 loop-i-preserved c =
     let l = c.loop-i in
     let a = c.args in
     let w = whole (goal.at.loop-i-preserved c).Start in
-    let n = c.held-n.ensures in
+    let n = c.held-i-end.ensures in
     let f = ranged_block a.d.now a.list.now in
     let sized = block_long a.d.now a.list.now c.requires.2 in
     let few : l.i < side_count = omega (arith, n, w.at_most) in
-    let long = length_first f block_bytes l.i (λ k h. sized k (omega arith)) in (
-      omega arith,
-      c.write_side.auto.res ∙ l.invariant.1,
-      c.write_side.ensures
-          ∙ ap (λ b. put b (block_bytes * l.i) (f l.i)) l.invariant.2
-          ∙ ap (λ m. put (put a.res.now 0 (flatten (table l.i f))) m (f l.i)) (omega arith)
-          ∙ put_behind (flatten (table l.i f)) (f l.i) a.res.now 0 (block_bytes * l.i) long (omega (arith, sized l.i few, n, w.long, c.requires.3))
-          ∙ ap (put a.res.now 0) (sym (pieces_more f l.i)),
-    )
+    let long = length_first f block_bytes l.i (λ k h. sized k (omega arith)) in
+    c.write_side.ensures
+    ∙ ap (λ b. put b (block_bytes * l.i) (f l.i)) l.invariant
+    ∙ ap (λ m. put (put a.res.now 0 (flatten (table l.i f))) m (f l.i)) (omega arith)
+    ∙ put_behind (flatten (table l.i f)) (f l.i) a.res.now 0 (block_bytes * l.i) long (omega (arith, sized l.i few, n, w.long, c.requires.3))
+    ∙ ap (put a.res.now 0) (sym (pieces_more f l.i))
 
 pub returns : goal.returns
 returns c =
     let l = c.loop-i in
-    let all : l.i ≡ held c.args.d.now = omega (arith, c.held-n.ensures) in
-    l.invariant.2 ∙ ap (λ m. put c.args.res.now 0 (flatten (table m (ranged_block c.args.d.now c.args.list.now)))) all
+    let all : l.i ≡ held c.args.d.now = omega (arith, c.held-i-end.ensures) in
+    l.invariant ∙ ap (λ m. put c.args.res.now 0 (flatten (table m (ranged_block c.args.d.now c.args.list.now)))) all

@@ -1,11 +1,12 @@
 -- `counting::is_below` meets its contract.
-use mathlib.Core.Path.{sym, ap}
-use Rattle.model.specs.Ranges.{below}
-use Rattle.ranges.proofs.EntryRanges.{without_greatest, with_greatest}
+use Rattle.std.proofs.Common.{rules}
+use mathlib.Core.Path.{◌≡◌, ap, ◌∙◌}
+use borrow.Author.Tests.{tests}
+use Rattle.ranges.proofs.EntryRanges.{below_in, below_told}
 use Rattle.ranges.proofs.counting.is_below.Goals as goal
 
-pub returns-then-e-eq-NO_GREATEST : goal.returns-then-e-eq-NO_GREATEST
-returns-then-e-eq-NO_GREATEST c = let a = c.args in sym (ap (below a.k) (without_greatest a.e c.if-e-eq-NO_GREATEST.true))
-
 pub returns : goal.returns
-returns c = let a = c.args in sym (ap (below a.k) (with_greatest a.e c.if-e-eq-NO_GREATEST.false))
+returns c =
+    let a = c.args in
+    let told : c.is_none_or.result ≡ below_in a.k c.greatest.result = search (rules, tests) in
+    told ∙ ap (below_in a.k) c.greatest.ensures ∙ below_told a.e a.k

@@ -11,7 +11,7 @@ sent_told : (c : After-is_sent) → c.is_sent.result ≡ sent c.args.event
 sent_told c = c.is_sent.ensures ∙ ap sent (read_back c.args.event (search rules))
 
 pub returns-then-is_sent : goal.returns-then-is_sent
-returns-then-is_sent c = rw (sym (sent_told (goal.at.returns-then-is_sent c).After-is_sent) ∙ c.if-is_sent.true)
+returns-then-is_sent c = rw (sym c.from.ensures, sym (sent_told (goal.at.returns-then-is_sent c).After-is_sent) ∙ c.if-is_sent.true)
 
-pub returns : goal.returns
-returns c = c.is_below.ensures ∙ sym (rw (sym (sent_told (goal.at.returns c).After-is_sent) ∙ c.if-is_sent.false))
+pub returns-else-is_sent : goal.returns-else-is_sent
+returns-else-is_sent c = c.is_below.ensures ∙ sym (rw (sym (sent_told (goal.at.returns-else-is_sent c).After-is_sent) ∙ c.if-is_sent.false))

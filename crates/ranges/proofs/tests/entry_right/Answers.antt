@@ -76,7 +76,7 @@ returns-then-waits_itself c =
             | then-i-lt-SIDES v ↦
                 c.counts_right.ensures
                 ∙ sym (state_decides c.args.d.now c.args.e c.from-i.result c.from-k.result c.from-i.ensures c.from-k.ensures v.state_count.result v.state_count.ensures v.if-i-lt-SIDES.true
-                  (ltb-true c.from-k.result v.state_count.result (sym v.value-is ∙ w.if-k-state_count.true)) w.side_state.result w.side_state.ensures w.waits_itself.result w.waits_itself.ensures
+                (ltb-true c.from-k.result v.state_count.result (sym v.value-is ∙ w.if-k-state_count.true)) w.side_state.result w.side_state.ensures w.waits_itself.result w.waits_itself.ensures
                 ∙ ap (λ b. b && counts c.args.d.now c.args.e) (sym w.value-is ∙ c.if-waits_itself.true))
             | else-i-lt-SIDES v ↦ absurd (let h = ltb-true c.from-i.result side_count (sym v.value-is ∙ w.if-k-state_count.true) in omega (arith, h, v.if-i-lt-SIDES.false))
           ])
@@ -91,7 +91,7 @@ returns-else-waits_itself c =
             | then-i-lt-SIDES v ↦
                 c.if-waits_itself.false
                 ∙ sym (state_decides c.args.d.now c.args.e c.from-i.result c.from-k.result c.from-i.ensures c.from-k.ensures v.state_count.result v.state_count.ensures v.if-i-lt-SIDES.true
-                  (ltb-true c.from-k.result v.state_count.result (sym v.value-is ∙ w.if-k-state_count.true)) w.side_state.result w.side_state.ensures w.waits_itself.result w.waits_itself.ensures
+                (ltb-true c.from-k.result v.state_count.result (sym v.value-is ∙ w.if-k-state_count.true)) w.side_state.result w.side_state.ensures w.waits_itself.result w.waits_itself.ensures
                 ∙ ap (λ b. b && counts c.args.d.now c.args.e) (sym w.value-is ∙ c.if-waits_itself.false))
             | else-i-lt-SIDES v ↦ absurd (let h = ltb-true c.from-i.result side_count (sym v.value-is ∙ w.if-k-state_count.true) in omega (arith, h, v.if-i-lt-SIDES.false))
           ])
