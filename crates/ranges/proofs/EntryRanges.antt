@@ -1,12 +1,11 @@
 -- The range of an entry, where it has a greatest count and where it has none.
-use mathlib.Core.Path.{◌≡◌, refl, ap, ◌∙◌}
+use mathlib.Core.Path.{◌≡◌, refl}
 use mathlib.Core.Bool.{Bool, true, false, cond}
 use Prim.Native.Nat.{ℕ, ◌<◌}
-use native.Mathlib.Omega.{arith}
 use lib.Dec.{eqb, ltb}
 use Rattle.std.proofs.Common.{Option, None, Some}
 use Rattle.std.specs.Option.{unwrap_or}
-use Rattle.model.specs.Ranges.{up_to, none, Range, Greatest, last_count, below}
+use Rattle.model.specs.Ranges.{up_to, none, Range, last_count, below}
 use Rattle.ranges.specs.declared.entries.Entry.{Entry}
 use Rattle.ranges.specs.Entries.{no_greatest, range_of}
 

@@ -48,11 +48,6 @@ module _ (ds es before : List ℕ) where
             ∙ sym (where_none refusal (put before 0 (ranged_design ds es)) before ok);
       }
 
-pub returns-then-refusal-ne0 : goal.returns-then-refusal-ne0
-returns-then-refusal-ne0 c =
-    let a = c.args in
-    declined a.design.now a.list.now a.res.now c.ranges_refusal-refusal.result c.ranges_refusal-refusal.ensures c.if-refusal-ne0.true
-
 -- nothing is refused
 accepted : (c : Else-refusal-ne0) → let a = c.args in ranges_refusal a.design.now a.list.now (length a.res.now) ≡ 0
 accepted c = sym c.ranges_refusal-refusal.ensures ∙ c.if-refusal-ne0.false
@@ -74,7 +69,7 @@ copy-requires c =
     let w = old_whole a.design.now a.list.now (length a.res.now) (accepted (goal.at.copy-requires c).Else-refusal-ne0) in
     let roomy = (passes a.design.now a.list.now (length a.res.now) (accepted (goal.at.copy-requires c).Else-refusal-ne0)).roomy in
     let at = c.formulas_at-behind.ensures in
-    (omega (arith, at, w.long), omega (arith, at, w.long, roomy, c.write_sides.new.res))
+    (omega (arith, at, w.long), omega (arith, at, w.long, roomy))
 
 pub returns : goal.returns
 returns c =

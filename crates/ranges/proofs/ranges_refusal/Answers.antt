@@ -25,17 +25,11 @@ returns-then-refusal-ne0 c =
     let e = c.design_refusal-refusal.ensures in
     e ∙ sym (design_refused a.design.now a.list.now a.room (λ z. c.if-refusal-ne0.true (e ∙ z)))
 
-pub list_right-requires : goal.list_right-requires
-list_right-requires c = designed (goal.at.list_right-requires c).Else-refusal-ne0
-
 pub returns-then-not-list_right : goal.returns-then-not-list_right
 returns-then-not-list_right c =
     let a = c.args in
     let wrong = sym c.list_right.ensures ∙ c.if-not-list_right.true in
     sym (behind_design a.design.now a.list.now a.room (designed (goal.at.returns-then-not-list_right c).Else-refusal-ne0) ∙ rw wrong)
-
-pub sides_fit-requires : goal.sides_fit-requires
-sides_fit-requires c = designed (goal.at.sides_fit-requires c).Else-refusal-ne0
 
 pub returns-then-not-sides_fit : goal.returns-then-not-sides_fit
 returns-then-not-sides_fit c =

@@ -1,5 +1,5 @@
 -- `blocks::new_states` meets its contract. The invariant: the n states that are put are those of the side with the first j entries.
-use mathlib.Core.Path.{◌≡◌, refl, sym, ap, ap₂, ◌∙◌}
+use mathlib.Core.Path.{◌≡◌, sym, ap, ap₂, ◌∙◌}
 use mathlib.Core.Bool.{true}
 use mathlib.Core.List.{List, flatten}
 use Prim.Native.Nat.{ℕ, ◌+◌, ◌*◌, ◌≤◌, ◌<◌}
@@ -25,12 +25,8 @@ use Rattle.ranges.proofs.EntryLists.{named_next, not_named}
 use Rattle.ranges.proofs.StatesPut.{length_states, replaced_put}
 use Rattle.ranges.proofs.NewSides.{few_with}
 use Rattle.ranges.proofs.OneEntry.{side_with, named, named_yet, still, room_for}
-use borrow.Author.Rules.{rules}
 use Rattle.ranges.proofs.blocks.new_states.Goals as goal
 use Rattle.ranges.proofs.blocks.new_states.Goals.{At-loop-j, In-loop-j, then-from-i, else-from-i}
-
-pub old_states-requires : goal.old_states-requires
-old_states-requires c = (c.requires.0, c.requires.3, c.requires.4)
 
 pub state_count-n-requires : goal.state_count-n-requires
 state_count-n-requires c = ((accepted_counts _ c.requires.0).whole, c.requires.3)
@@ -52,9 +48,6 @@ long c = c.loop-j.auto.s ∙ c.old_states.auto.s
 
 in_list : (c : In-loop-j) → c.loop-j.j < entry_count c.args.list.now
 in_list c = omega (arith, c.count-j-end.ensures)
-
-pub read_entry-e-requires : goal.read_entry-e-requires
-read_entry-e-requires c = in_list (goal.at.read_entry-e-requires c).In-loop-j
 
 -- an entry for the side: its state is there
 module _ (ds es : List ℕ) (i j : ℕ) (e : Entry) (read : e ≡ entry_at es j) (right : list_right ds es ≡ true) (listed : j < entry_count es) (own : e.side ≡ i) where

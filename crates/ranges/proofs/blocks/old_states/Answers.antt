@@ -1,11 +1,11 @@
 -- `blocks::old_states` meets its contract. The invariant: the first k states are put.
-use mathlib.Core.Path.{◌≡◌, refl, sym, ap, ap₂, ◌∙◌}
+use mathlib.Core.Path.{◌≡◌, sym, ap, ap₂, ◌∙◌}
 use mathlib.Core.List.{[], ◌∷◌, ◌++◌, flatten}
 use Prim.Native.Nat.{◌+◌, ◌*◌, ◌<◌}
 use native.Mathlib.Numerals.{add-one}
 use native.Mathlib.Omega.{arith}
 use lib.ListN.{length, take}
-use lib.Seq.{take-suc, take_all, length-take-le}
+use lib.Seq.{take-suc, length-take-le}
 use Rattle.model.specs.Sides.{Side, state, no_state}
 use Rattle.layout.specs.Sizes.{state_bytes, most_states}
 use Rattle.layout.specs.Bytes.{put}
@@ -16,7 +16,6 @@ use Rattle.layout.proofs.Put.{put_nil}
 use Rattle.refusals.proofs.WellFormed.{accepted_counts}
 use Rattle.ranges.specs.Ranges.{states_to}
 use Rattle.ranges.proofs.StatesPut.{states_more}
-use borrow.Author.Rules.{rules}
 use Rattle.ranges.proofs.blocks.old_states.Goals as goal
 use Rattle.ranges.proofs.blocks.old_states.Goals.{At-loop-k, In-loop-k}
 
@@ -59,9 +58,3 @@ loop-k-preserved c =
     ∙ ap (λ i. put (put c.args.s.now 0 (states_to (take l.k S))) i (state_to (state S l.k))) (omega arith)
     ∙ states_more c.args.s.now 0 l.k (take l.k S) (state S l.k) (length-take-le l.k S (omega (arith, h.0))) (omega (arith, h.1, c.requires.2))
     ∙ ap (λ X. put c.args.s.now 0 (states_to X)) (sym next)
-
-pub returns : goal.returns
-returns c =
-    let l = c.loop-k in
-    let S = old_side (goal.at.returns c).At-loop-k in
-    l.invariant ∙ ap (λ X. put c.args.s.now 0 (states_to X)) (take_all l.k S (omega (arith, c.state_count-k-end.ensures)))

@@ -1,23 +1,18 @@
 -- `blocks::replace` meets its contract. The invariant: counts 1 to k are put behind the n states.
-use mathlib.Core.Path.{◌≡◌, refl, sym, ap, ap₂, ◌∙◌}
+use mathlib.Core.Path.{◌≡◌, sym, ap, ap₂, ◌∙◌}
 use mathlib.Core.List.{[], ◌∷◌, ◌++◌, flatten}
-use Prim.Native.Nat.{◌+◌, ◌*◌, ◌≤◌}
+use Prim.Native.Nat.{◌+◌, ◌*◌}
 use native.Mathlib.Omega.{arith}
-use lib.ListN.{length}
-use Rattle.model.specs.Ranges.{last_count, counted, counts}
+use Rattle.model.specs.Ranges.{counted, counts}
 use Rattle.model.proofs.RangedSides.{length_counts, counts_more}
-use Rattle.layout.specs.Sizes.{state_bytes, most_states}
+use Rattle.layout.specs.Sizes.{state_bytes}
 use Rattle.layout.specs.Bytes.{put}
 use Rattle.layout.specs.States.{state_of, state_to}
 use Rattle.layout.proofs.Put.{put_nil}
 use Rattle.ranges.specs.Entries.{range_of}
 use Rattle.ranges.specs.Ranges.{states_to}
 use Rattle.ranges.proofs.StatesPut.{states_more}
-use borrow.Author.Rules.{rules}
 use Rattle.ranges.proofs.blocks.replace.Goals as goal
-
-pub write_state-requires : goal.write_state-requires
-write_state-requires c = omega (arith, c.requires.0, c.requires.2, c.requires.3)
 
 pub loop-k-init : goal.loop-k-init
 unfolding states_to counts flatten
@@ -39,14 +34,3 @@ loop-k-preserved c =
     ∙ ap (λ i. put (put s₀ (state_bytes * a.n) (states_to done)) i (state_to next)) at
     ∙ states_more s₀ (state_bytes * a.n) l.k done next (length_counts r a.n (state_of a.q) 1 l.k) (omega arith)
     ∙ ap (λ S. put s₀ (state_bytes * a.n) (states_to S)) (sym (counts_more r a.n (state_of a.q) 1 l.k ∙ ap (λ i. done ++ (counted r a.n (state_of a.q) i ∷ [])) one))
-
-pub returns : goal.returns
-returns c =
-    let l = c.loop-k in
-    let a = c.args in
-    let r = range_of a.e in
-    let all : l.k ≡ last_count r = omega (arith, c.last_count-k-end.ensures) in
-    l.invariant
-    ∙ ap₂ (λ b m. put b (state_bytes * a.n) (states_to (counts r a.n (state_of a.q) 1 m)))
-    (c.write_state.ensures ∙ ap₂ (λ i q. put a.s.now (state_bytes * i) (state_to q)) c.from.ensures c.counted.ensures.0)
-    all

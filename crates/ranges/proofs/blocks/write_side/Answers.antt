@@ -18,7 +18,7 @@ pub write_states-requires : goal.write_states-requires
 write_states-requires c =
     let few = few_with c.args.d.now c.args.list.now c.requires.2 c.args.i c.requires.3 in
     let n = c.new_states-n.ensures.0 in
-    (c.requires.3, omega (arith, n, few), omega (arith, n, few, c.new_states-n.new.s), c.requires.4)
+    (c.requires.3, omega (arith, n, few), omega (arith, n, few), c.requires.4)
 
 pub returns : goal.returns
 unfolding ranged_block

@@ -1,18 +1,17 @@
 -- `blocks::write_sides` meets its contract. The invariant: the blocks of the sides before i are put.
-use mathlib.Core.Path.{◌≡◌, refl, sym, ap, ◌∙◌}
+use mathlib.Core.Path.{sym, ap, ◌∙◌}
 use mathlib.Core.List.{flatten}
 use Prim.Native.Nat.{◌*◌, ◌<◌}
 use native.Mathlib.Omega.{arith}
 use Rattle.layout.specs.Sizes.{side_count, block_bytes}
 use Rattle.layout.specs.Tables.{table, table_from}
 use Rattle.layout.specs.Bytes.{put}
-use Rattle.layout.specs.Designs.{held, Whole}
+use Rattle.layout.specs.Designs.{Whole}
 use Rattle.layout.proofs.Pieces.{pieces_more, length_first}
 use Rattle.layout.proofs.Put.{put_nil, put_behind}
 use Rattle.refusals.proofs.WellFormed.{accepted_counts}
 use Rattle.ranges.specs.Ranges.{ranged_block}
 use Rattle.ranges.proofs.NewSides.{block_long}
-use borrow.Author.Rules.{rules}
 use Rattle.ranges.proofs.blocks.write_sides.Goals as goal
 use Rattle.ranges.proofs.blocks.write_sides.Goals.{Start}
 
@@ -48,9 +47,3 @@ loop-i-preserved c =
     ∙ ap (λ m. put (put a.res.now 0 (flatten (table l.i f))) m (f l.i)) (omega arith)
     ∙ put_behind (flatten (table l.i f)) (f l.i) a.res.now 0 (block_bytes * l.i) long (omega (arith, sized l.i few, n, w.long, c.requires.3))
     ∙ ap (put a.res.now 0) (sym (pieces_more f l.i))
-
-pub returns : goal.returns
-returns c =
-    let l = c.loop-i in
-    let all : l.i ≡ held c.args.d.now = omega (arith, c.held-i-end.ensures) in
-    l.invariant ∙ ap (λ m. put c.args.res.now 0 (flatten (table m (ranged_block c.args.d.now c.args.list.now)))) all

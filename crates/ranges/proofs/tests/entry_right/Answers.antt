@@ -13,7 +13,6 @@ use Rattle.layout.specs.declared.states.StateRecord.{StateRecord}
 use Rattle.layout.specs.States.{state_of}
 use Rattle.layout.specs.Designs.{design, side, stored_state}
 use Rattle.layout.proofs.DesignBytes.{stored_state_is}
-use Rattle.refusals.specs.Refusals.{design_refusal}
 use Rattle.refusals.proofs.WellFormed.{accepted_counts}
 use Rattle.ranges.specs.declared.entries.Entry.{Entry}
 use Rattle.ranges.specs.Entries.{most_waits, no_greatest, waits_itself, entry_right}

@@ -3,8 +3,7 @@ use mathlib.Core.Path.{◌≡◌, sym, ap, ◌∙◌}
 use mathlib.Core.List.{List}
 use Prim.Native.Nat.{ℕ, ◌+◌}
 use native.Mathlib.Omega.{arith}
-use borrow.Author.Tests.{le-leb, lt-leb}
-use borrow.Author.Rules.{rules}
+use borrow.Author.Tests.{lt-leb}
 use lib.ListN.{length}
 use Rattle.model.specs.Ranges.{last_count}
 use Rattle.layout.specs.Sizes.{most_states}
@@ -26,9 +25,6 @@ loop-j-init c =
     let few = (accepted_counts _ c.requires.0).few_states a.i c.requires.1 in
     let n = c.state_count-n.ensures in
     (omega arith, n ∙ sym (ap length (with_none (side (design a.d.now) a.i) a.list.now a.i)))
-
-pub read_entry-e-requires : goal.read_entry-e-requires
-read_entry-e-requires c = omega (arith, c.count-j-end.ensures)
 
 -- how many states the side has with the first k entries
 abbrev states : List ℕ → List ℕ → ℕ → ℕ → ℕ
@@ -66,14 +62,3 @@ loop-j-preserved c =
       | else-from-i w ↦
           (omega (arith, w.n-is), w.n-is ∙ l.invariant.1 ∙ sym (ap length (not_named (side (design d) i) es i l.j entry.result entry.ensures (λ e. w.if-from-i.false (c.from.ensures ∙ e)))))
     ]
-
-pub returns : goal.returns
-returns c =
-    let d = c.args.d.now in
-    let es = c.args.list.now in
-    let i = c.args.i in
-    let all = entry_count es in
-    let total = c.count-j-end.ensures in
-    sym
-    (le-leb (states d es i all) most_states
-    (omega (arith, c.loop-j.invariant.1, count_grows (side (design d) i) es i all c.loop-j.j (omega arith))))

@@ -3,8 +3,6 @@ use Rattle.std.proofs.Common.{rules}
 use borrow.Author.Tests.{tests}
 use lib.Dec.{leb}
 use lib.ListN.{length}
-use mathlib.Core.Bool.{Bool}
-use Prim.Native.Nat.{ℕ}
 use Rattle.layout.specs.Sizes.{side_count, most_states}
 use Rattle.ranges.specs.Entries.{new_side, sides_fit}
 use Rattle.ranges.proofs.EachNumber.{every_from_all}
