@@ -4,6 +4,7 @@ pub mod Outcomes
 pub mod FileSizes
 pub mod BlockTests
 pub mod Earlier
+pub mod EachNumber
 pub mod FileTests
 pub mod Agree
 pub mod FileRecords

@@ -22,13 +22,7 @@ pub fn block_count(s: &[u8]) -> usize
 fn file_size_right(s: &[u8]) -> bool
     ensures { result ≡ file_size_right s.now }
 {
-    if s.len() == 0 {
-        return false;
-    }
-    if s.len() % sizes::BLOCK_BYTES != 0 {
-        return false;
-    }
-    block_count(s) <= sizes::MOST_BLOCKS
+    !s.is_empty() && s.len() % sizes::BLOCK_BYTES == 0 && block_count(s) <= sizes::MOST_BLOCKS
 }
 
 // How many records block k of n has at least: all but the last are full.
@@ -36,10 +30,7 @@ fn least_count(n: usize, k: usize) -> usize
     requires { k < n }
     ensures { result ≡ (file_block n k).least }
 {
-    if k + 1 == n {
-        return 1;
-    }
-    sizes::BLOCK_RECORDS
+    if k + 1 == n { 1 } else { sizes::BLOCK_RECORDS }
 }
 
 // The first of 2, 3, 4 and 8 that block k of n fails, and 0 where it passes.
@@ -52,7 +43,7 @@ fn block_refusal(s: &[u8], n: usize, k: usize) -> u8
     if !blocks::check_right(s, at) {
         return 2;
     }
-    if !blocks::header_right(s, at, sizes::CONVERTER_KIND as usize, first) {
+    if !blocks::header_right(s, at, usize::from(sizes::CONVERTER_KIND), first) {
         return 3;
     }
     if !blocks::count_right(s, at, least_count(n, k), sizes::BLOCK_RECORDS) {
@@ -72,15 +63,12 @@ fn earlier(a: u8, b: u8) -> u8
     ensures { result ≡ earlier a b }
 {
     if a == 0 {
-        return b;
+        b
+    } else if b == 0 {
+        a
+    } else {
+        a.min(b)
     }
-    if b == 0 {
-        return a;
-    }
-    if a < b {
-        return a;
-    }
-    b
 }
 
 // How many records the file has, whose earlier blocks are taken to be full.
@@ -120,15 +108,7 @@ fn file_records_right(s: &[u8]) -> bool
     ensures { result ≡ records_right (file_records s.now) }
 {
     let n = record_count(s);
-    let mut j = 0;
-    // The first j records are right.
-    while j < n {
-        if !converters::record_right(s, n, record_place(j)) {
-            return false;
-        }
-        j += 1;
-    }
-    true
+    (0..n).all(|j| converters::record_right(s, n, record_place(j)))
 }
 
 // The records of the file, one after the other.
@@ -137,10 +117,7 @@ fn read_records(s: &[u8], converter: &mut [u8])
         × (record_bytes * file_count s.now ≤ length converter.old) }
     ensures { converter.new ≡ put converter.old 0 (file_records s.now) }
 {
-    let n = record_count(s);
-    let mut j = 0;
-    // The first j records are read.
-    while j < n {
+    for j in 0..record_count(s) {
         ranges::copy(
             s,
             record_place(j),
@@ -148,7 +125,6 @@ fn read_records(s: &[u8], converter: &mut [u8])
             sizes::RECORD_BYTES * j,
             sizes::RECORD_BYTES,
         );
-        j += 1;
     }
 }
 
@@ -162,11 +138,9 @@ pub fn file_refusal(s: &[u8]) -> u8
     }
     let n = block_count(s);
     let mut first = count_refusal(s);
-    let mut k = 0;
     // first is the earliest refusal by the record count and the first k blocks.
-    while k < n {
+    for k in 0..n {
         first = earlier(first, block_refusal(s, n, k));
-        k += 1;
     }
     if first != 0 {
         return first;

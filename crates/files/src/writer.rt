@@ -17,7 +17,7 @@ pub fn blocks_for(n: usize) -> usize
     requires { n ≤ most_records }
     ensures { result ≡ blocks_for n }
 {
-    (n + (sizes::BLOCK_RECORDS - 1)) / sizes::BLOCK_RECORDS
+    n.div_ceil(sizes::BLOCK_RECORDS)
 }
 
 // The first of 10 to 12 that holds, with so much room lent for the blocks, and 0 where none does.
@@ -39,11 +39,7 @@ fn count_in_block(n: usize, k: usize) -> usize
     requires { block_records * k < n }
     ensures { result ≡ min block_records (n - block_records * k) }
 {
-    let left = n - sizes::BLOCK_RECORDS * k;
-    if left < sizes::BLOCK_RECORDS {
-        return left;
-    }
-    sizes::BLOCK_RECORDS
+    sizes::BLOCK_RECORDS.min(n - sizes::BLOCK_RECORDS * k)
 }
 
 // Block k of the file of a converter, written at its place.
@@ -71,12 +67,8 @@ fn write_blocks(converter: &[u8], blocks: &mut [u8])
     requires { write_refusal converter.now (length blocks.old) ≡ 0 }
     ensures { blocks.new ≡ put blocks.old 0 (written converter.now) }
 {
-    let n = blocks_for(converters::count(converter));
-    let mut k = 0;
-    // The first k blocks are written.
-    while k < n {
+    for k in 0..blocks_for(converters::count(converter)) {
         write_block(converter, k, blocks);
-        k += 1;
     }
 }
 

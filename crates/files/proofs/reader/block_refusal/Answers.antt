@@ -15,7 +15,7 @@ first : (c : After-check_right) → check_right c.args.s.now (file_block c.args.
 first c = sym (c.check_right.ensures (file_block c.args.n c.args.k) refl)
 
 second : (c : After-header_right) → header_right c.args.s.now (file_block c.args.n c.args.k) ≡ c.header_right.result
-second c = sym (c.header_right.ensures (file_block c.args.n c.args.k) refl refl refl)
+second c = sym (c.header_right.ensures (file_block c.args.n c.args.k) refl (sym c.from.ensures) refl)
 
 third : (c : After-count_right) → count_right c.args.s.now (file_block c.args.n c.args.k) ≡ c.count_right.result
 third c = sym (c.count_right.ensures (file_block c.args.n c.args.k) refl (sym c.least_count.ensures) refl)

@@ -24,7 +24,7 @@ found : (c : After-loop-k) → c.loop-k.first ≡ first_failing (whole c.args.s.
 found c =
     let f = c.args.s.now in
     let e : c.loop-k.k ≡ blocks f = omega (arith, c.block_count-n.ensures) in
-    c.loop-k.invariant.1 ∙ ap (λ k. first_failing (so_far f k)) e ∙ ap first_failing (end f)
+    c.loop-k.invariant ∙ ap (λ k. first_failing (so_far f k)) e ∙ ap first_failing (end f)
 
 -- behind them stands the test of the records
 abbrev rest : List ℕ → List Test
@@ -44,7 +44,7 @@ pub count_refusal-first-requires : goal.count_refusal-first-requires
 count_refusal-first-requires c = size_passed (goal.at.count_refusal-first-requires c).Else-not-file_size_right
 
 pub loop-k-init : goal.loop-k-init
-loop-k-init c = (search rules, c.count_refusal-first.ensures ∙ start c.args.s.now)
+loop-k-init c = c.count_refusal-first.ensures ∙ start c.args.s.now
 
 pub block_refusal-requires : goal.block_refusal-requires
 block_refusal-requires c = (
@@ -54,12 +54,10 @@ block_refusal-requires c = (
 )
 
 pub loop-k-preserved : goal.loop-k-preserved
-loop-k-preserved c = (
-  search rules,
-  c.earlier-first.ensures
-      ∙ ap₂ earlier c.loop-k.invariant.1 (c.block_refusal.ensures ∙ ap (λ n. first_failing (block_tests c.args.s.now (file_block n c.loop-k.k))) c.block_count-n.ensures)
-      ∙ next c.args.s.now c.loop-k.k,
-)
+loop-k-preserved c =
+    c.earlier-first.ensures
+    ∙ ap₂ earlier c.loop-k.invariant (c.block_refusal.ensures ∙ ap (λ n. first_failing (block_tests c.args.s.now (file_block n c.loop-k.k))) c.block_count-n.ensures)
+    ∙ next c.args.s.now c.loop-k.k
 
 pub returns-then-first-ne0 : goal.returns-then-first-ne0
 returns-then-first-ne0 c =

@@ -1,11 +1,7 @@
 use mathlib.Core.Path.{◌≡◌}
-use Prim.Native.Nat.{◌-◌, ◌≤◌}
 use Rattle.refusals.specs.Refusals.{first_failing}
 use Rattle.files.proofs.FileTests.{so_far}
 use Rattle.files.proofs.reader.file_refusal.Given as goal
 
 abbrev pub invariant-loop-k : goal.invariant-loop-k
-invariant-loop-k l = (l.k ≤ l.n) × (l.first ≡ first_failing (so_far l.s l.k))
-
-abbrev pub decreases-loop-k : goal.decreases-loop-k
-decreases-loop-k l = l.n - l.k
+invariant-loop-k l = l.first ≡ first_failing (so_far l.s l.k)

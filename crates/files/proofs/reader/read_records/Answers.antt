@@ -18,33 +18,31 @@ kept : (c : At-loop-j) → length c.loop-j.converter ≡ length c.args.converter
 kept c =
     let l = c.loop-j in
     let f = file_records c.args.s.now in
-    ap length l.invariant.1
+    ap length l.invariant
     ∙ length_put (take (record_bytes * l.j) f) c.args.converter.now 0
-    (omega (arith, c.record_count-n.ensures, c.requires.3, length_file_records c.args.s.now, length-take-le (record_bytes * l.j) f (omega (arith, c.record_count-n.ensures, length_file_records c.args.s.now))))
+    (omega (arith, c.record_count-j-end.ensures, c.requires.3, length_file_records c.args.s.now, length-take-le (record_bytes * l.j) f (omega (arith, c.record_count-j-end.ensures, length_file_records c.args.s.now))))
 
 pub loop-j-init : goal.loop-j-init
-loop-j-init c = (search rules, sym (put_nil c.args.converter.now 0 (omega arith)))
+loop-j-init c = sym (put_nil c.args.converter.now 0 (omega arith))
 
 pub record_place-requires : goal.record_place-requires
-record_place-requires c = omega (arith, c.record_count-n.ensures, c.requires.1)
+record_place-requires c = omega (arith, c.record_count-j-end.ensures, c.requires.1)
 
 pub copy-requires : goal.copy-requires
 copy-requires c =
-    let e = c.record_count-n.ensures in (
+    let e = c.record_count-j-end.ensures in (
       omega (arith, c.record_place.ensures, place_fits c.args.s.now c.requires.2 c.loop-j.j (omega arith)),
       omega (arith, kept (goal.at.copy-requires c).At-loop-j, c.requires.3),
     )
 
 pub loop-j-preserved : goal.loop-j-preserved
 loop-j-preserved c =
-    let e = c.record_count-n.ensures in (
-      search rules,
-      c.copy.ensures
-          ∙ ap₂ (λ l i. put l (record_bytes * c.loop-j.j) (part c.args.s.now i record_bytes)) c.loop-j.invariant.1 c.record_place.ensures
-          ∙ put_next_record c.args.s.now c.requires.2 c.loop-j.j (omega arith) c.args.converter.now (omega (arith, c.requires.3)),
-    )
+    let e = c.record_count-j-end.ensures in
+    c.copy.ensures
+    ∙ ap₂ (λ l i. put l (record_bytes * c.loop-j.j) (part c.args.s.now i record_bytes)) c.loop-j.invariant c.record_place.ensures
+    ∙ put_next_record c.args.s.now c.requires.2 c.loop-j.j (omega arith) c.args.converter.now (omega (arith, c.requires.3))
 
 pub returns : goal.returns
 returns c =
-    let e = c.record_count-n.ensures in
-    c.loop-j.invariant.1 ∙ ap (put c.args.converter.now 0) (take_all (record_bytes * c.loop-j.j) (file_records c.args.s.now) (omega (arith, length_file_records c.args.s.now)))
+    let e = c.record_count-j-end.ensures in
+    c.loop-j.invariant ∙ ap (put c.args.converter.now 0) (take_all (record_bytes * c.loop-j.j) (file_records c.args.s.now) (omega (arith, length_file_records c.args.s.now)))

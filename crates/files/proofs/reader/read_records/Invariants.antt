@@ -1,5 +1,5 @@
 use mathlib.Core.Path.{◌≡◌}
-use Prim.Native.Nat.{◌-◌, ◌*◌, ◌≤◌}
+use Prim.Native.Nat.{◌*◌}
 use lib.ListN.{take}
 use Rattle.layout.specs.Sizes.{record_bytes}
 use Rattle.layout.specs.Bytes.{put}
@@ -7,7 +7,4 @@ use Rattle.files.specs.Files.{file_records}
 use Rattle.files.proofs.reader.read_records.Given as goal
 
 abbrev pub invariant-loop-j : goal.invariant-loop-j
-invariant-loop-j l = (l.j ≤ l.n) × (l.converter ≡ put l.initial.converter 0 (take (record_bytes * l.j) (file_records l.s)))
-
-abbrev pub decreases-loop-j : goal.decreases-loop-j
-decreases-loop-j l = l.n - l.j
+invariant-loop-j l = l.converter ≡ put l.initial.converter 0 (take (record_bytes * l.j) (file_records l.s))

@@ -14,17 +14,17 @@ use Rattle.refusals.proofs.Accepted.{Accepted, accepted}
 use Rattle.files.proofs.AcceptedWrites.{write_accepted}
 use Rattle.files.proofs.WrittenFile.{first_blocks, length_first_blocks, put_next_block}
 use Rattle.files.proofs.writer.write_blocks.Goals as goal
-use Rattle.files.proofs.writer.write_blocks.Goals.{After-blocks_for-n, Start}
+use Rattle.files.proofs.writer.write_blocks.Goals.{After-blocks_for-k-end, Start}
 
 -- what is accepted, and how many blocks it fills
 taken : (c : Start) → Accepted c.args.converter.now
 taken c = accepted c.args.converter.now (write_accepted c.args.converter.now (length c.args.blocks.now) c.requires).0
 
-filled : (c : After-blocks_for-n) → c.blocks_for-n.result ≡ blocks_for (records c.args.converter.now)
-filled c = c.blocks_for-n.ensures ∙ ap blocks_for c.count.ensures
+filled : (c : After-blocks_for-k-end) → c.blocks_for-k-end.result ≡ blocks_for (records c.args.converter.now)
+filled c = c.blocks_for-k-end.ensures ∙ ap blocks_for c.count.ensures
 
 -- there is room for them
-room : (c : After-blocks_for-n) → 512 * c.blocks_for-n.result ≤ length c.args.blocks.now
+room : (c : After-blocks_for-k-end) → 512 * c.blocks_for-k-end.result ≤ length c.args.blocks.now
 room c =
     omega (arith, filled c, (write_accepted c.args.converter.now (length c.args.blocks.now) c.requires).1)
 
@@ -33,32 +33,30 @@ kept : (cs bs done : List ℕ) (k : ℕ) → Accepted cs → k ≤ blocks_for (r
     → length done ≡ length bs
 kept cs bs done k a h room e = ap length e ∙ length_put (first_blocks cs k) bs 0 (omega (arith, length_first_blocks cs a k h))
 
-pub blocks_for-n-requires : goal.blocks_for-n-requires
-blocks_for-n-requires c = omega (arith, c.count.ensures, (taken (goal.at.blocks_for-n-requires c).Start).at_most)
+pub blocks_for-k-end-requires : goal.blocks_for-k-end-requires
+blocks_for-k-end-requires c = omega (arith, c.count.ensures, (taken (goal.at.blocks_for-k-end-requires c).Start).at_most)
 
 pub loop-k-init : goal.loop-k-init
 unfolding table table_from flatten
-loop-k-init c = (search rules, sym (put_nil c.args.blocks.now 0 (omega arith)))
+loop-k-init c = sym (put_nil c.args.blocks.now 0 (omega arith))
 
 pub write_block-requires : goal.write_block-requires
 write_block-requires c = (
   (write_accepted c.args.converter.now (length c.args.blocks.now) c.requires).0,
-  omega (arith, filled (goal.at.write_block-requires c).After-blocks_for-n),
-  (let f = filled (goal.at.write_block-requires c).After-blocks_for-n in
-      let r = room (goal.at.write_block-requires c).After-blocks_for-n in
-      omega (arith, kept c.args.converter.now c.args.blocks.now c.loop-k.blocks c.loop-k.k (taken (goal.at.write_block-requires c).Start) (omega arith) (omega arith) c.loop-k.invariant.1)),
+  omega (arith, filled (goal.at.write_block-requires c).After-blocks_for-k-end),
+  (let f = filled (goal.at.write_block-requires c).After-blocks_for-k-end in
+      let r = room (goal.at.write_block-requires c).After-blocks_for-k-end in
+      omega (arith, kept c.args.converter.now c.args.blocks.now c.loop-k.blocks c.loop-k.k (taken (goal.at.write_block-requires c).Start) (omega arith) (omega arith) c.loop-k.invariant)),
 )
 
 pub loop-k-preserved : goal.loop-k-preserved
-loop-k-preserved c = (
-  search rules,
-  c.write_block.ensures
-      ∙ ap (λ l. put l (512 * c.loop-k.k) (written_block c.args.converter.now c.loop-k.k)) c.loop-k.invariant.1
-      ∙ put_next_block c.args.converter.now (taken (goal.at.loop-k-preserved c).Start) c.args.blocks.now c.loop-k.k (omega (arith, filled (goal.at.loop-k-preserved c).After-blocks_for-n)) (omega (arith, room (goal.at.loop-k-preserved c).After-blocks_for-n)),
-)
+loop-k-preserved c =
+    c.write_block.ensures
+    ∙ ap (λ l. put l (512 * c.loop-k.k) (written_block c.args.converter.now c.loop-k.k)) c.loop-k.invariant
+    ∙ put_next_block c.args.converter.now (taken (goal.at.loop-k-preserved c).Start) c.args.blocks.now c.loop-k.k (omega (arith, filled (goal.at.loop-k-preserved c).After-blocks_for-k-end)) (omega (arith, room (goal.at.loop-k-preserved c).After-blocks_for-k-end))
 
 pub returns : goal.returns
 unfolding written
 returns c =
-    let e : c.loop-k.k ≡ blocks_for (records c.args.converter.now) = omega (arith, filled (goal.at.returns c).After-blocks_for-n) in
-    c.loop-k.invariant.1 ∙ ap (λ k. put c.args.blocks.now 0 (first_blocks c.args.converter.now k)) e
+    let e : c.loop-k.k ≡ blocks_for (records c.args.converter.now) = omega (arith, filled (goal.at.returns c).After-blocks_for-k-end) in
+    c.loop-k.invariant ∙ ap (λ k. put c.args.blocks.now 0 (first_blocks c.args.converter.now k)) e

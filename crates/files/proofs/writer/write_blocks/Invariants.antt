@@ -1,11 +1,7 @@
 use mathlib.Core.Path.{◌≡◌}
-use Prim.Native.Nat.{◌-◌, ◌≤◌}
 use Rattle.layout.specs.Bytes.{put}
 use Rattle.files.proofs.WrittenFile.{first_blocks}
 use Rattle.files.proofs.writer.write_blocks.Given as goal
 
 abbrev pub invariant-loop-k : goal.invariant-loop-k
-invariant-loop-k l = (l.k ≤ l.n) × (l.blocks ≡ put l.initial.blocks 0 (first_blocks l.converter l.k))
-
-abbrev pub decreases-loop-k : goal.decreases-loop-k
-decreases-loop-k l = l.n - l.k
+invariant-loop-k l = l.blocks ≡ put l.initial.blocks 0 (first_blocks l.converter l.k)
