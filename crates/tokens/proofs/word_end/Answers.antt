@@ -1,18 +1,18 @@
--- `word_end` meets its contract. The invariant: from `at` to i there are letters and digits.
-use mathlib.Core.Path.{sym, ◌∙◌}
-use Rattle.tokens.proofs.Words.{none_passed, more_passed, ended_before, ended_over}
+-- `word_end` meets its contract: the letters and digits that the chain counts are those at the front.
+use mathlib.Core.Path.{◌∙◌}
+use Rattle.std.proofs.Common.{rules, drop}
+use borrow.Author.Tests.{tests}
+use Rattle.std.proofs.lemmas.Iterator.{YieldsList-from_slice}
+use Rattle.std.proofs.lemmas.Iterator.Consumers.{count_from_yields_List, YieldsList-at}
+use Rattle.std.proofs.lemmas.Iterator.Search.{YieldsList-from_take_while}
+use Rattle.std.proofs.lemmas.List.Folds.{length-prefix_len}
+use Rattle.tokens.specs.Tokens.{worded}
+use Rattle.tokens.proofs.Words.{rest_is, word_passed}
 use Rattle.tokens.proofs.word_end.Goals as goal
 
-pub loop-i-init : goal.loop-i-init
-loop-i-init c = none_passed _ _ c.requires
-
-pub returns-then-not-is_worded : goal.returns-then-not-is_worded
-returns-then-not-is_worded c =
-    ended_before _ _ _ c.loop-i.invariant c.loop-i-test.true (sym c.is_worded.ensures ∙ c.if-not-is_worded.true)
-
-pub loop-i-preserved : goal.loop-i-preserved
-loop-i-preserved c =
-    more_passed _ _ _ c.loop-i.invariant c.loop-i-test.true (sym c.is_worded.ensures ∙ c.if-not-is_worded.false)
-
 pub returns : goal.returns
-returns c = ended_over _ _ _ c.loop-i.invariant c.loop-i-test.false
+returns c =
+    word_passed _ _ _ c.requires
+    (count_from_yields_List _ _ c.count.ensures.ran
+    (YieldsList-from_take_while _ worded (YieldsList-at c.take_while.ensures.source (YieldsList-from_slice _ (c.iter.ensures.rest ∙ rest_is c.args.text.now c.args.at))) c.take_while.ensures.closure c.take_while.ensures.done (λ x b q k. search (rules, tests)))
+    ∙ length-prefix_len worded (drop c.args.at c.args.text.now))
