@@ -7,7 +7,7 @@ ghost use Rattle.judge.specs.Judge.{judge_refusal, Judges};
 pub mod quick;
 mod rules;
 
-use layout::{designs, ranges, sizes};
+use layout::{designs, sizes};
 use refusals::{converters, design_tests};
 
 // Yes, or a refusal's number.
@@ -47,7 +47,7 @@ pub fn judge(design: &[u8], converter: &[u8], work: &mut [u8], waits: &mut [u32]
         return Verdict::Refused(refusal);
     }
     let found = rules::verdict(design, converter, work, waits);
-    ranges::fill(work, 0, sizes::CELL_BYTES * converters::count(converter), 0);
+    work[..sizes::CELL_BYTES * converters::count(converter)].fill(0);
     if found != 0 {
         return Verdict::Refused(found);
     }
