@@ -1,5 +1,5 @@
 -- The two ways in which the writer and the block reader end: refused, with every lent byte as it was, or done.
-use mathlib.Core.Path.{◌≡◌, sym, ap, ◌∙◌}
+use mathlib.Core.Path.{◌≡◌, ◌∙◌}
 use mathlib.Core.List.{List}
 use Prim.Native.Nat.{ℕ}
 use native.Mathlib.Decide.{ℕ_discrete}
@@ -20,20 +20,6 @@ module _ (cs bs : List ℕ) where
   abbrev w : ℕ
   w = write_refusal cs (length bs)
 
-  pub write_refused : (k : ℕ) → k ≡ w → (k ≡ 0 → ⊥) → Writes cs bs bs (Refused k)
-  write_refused k e n =
-      record {
-        answers = ap Refused e ∙ sym (where_some w (Blocks (blocks_for (records cs))) (Refused w) (λ z. n (e ∙ z)));
-        leaves = sym (where_some w (put bs 0 (written cs)) bs (λ z. n (e ∙ z)));
-      }
-
-  pub write_done : (after : List ℕ) (n : ℕ) → w ≡ 0 → n ≡ blocks_for (records cs) → after ≡ put bs 0 (written cs) → Writes cs bs after (Blocks n)
-  write_done after n z e l =
-      record {
-        answers = ap Blocks e ∙ sym (where_none w (Blocks (blocks_for (records cs))) (Refused w) z);
-        leaves = l ∙ sym (where_none w (put bs 0 (written cs)) bs z);
-      }
-
   -- where nothing is refused, it is done; and an answer with a count says that nothing is
   pub write_does : (after : List ℕ) (x : Written) → Writes cs bs after x → w ≡ 0 → (x ≡ Blocks (blocks_for (records cs))) × (after ≡ put bs 0 (written cs))
   write_does after x d z =
@@ -52,20 +38,6 @@ module _ (cs bs : List ℕ) where
 module _ (bs cs : List ℕ) where
   abbrev r : ℕ
   r = read_refusal bs (length cs)
-
-  pub read_refused : (k : ℕ) → k ≡ r → (k ≡ 0 → ⊥) → Reads bs cs cs (read.Refused k)
-  read_refused k e n =
-      record {
-        answers = ap read.Refused e ∙ sym (where_some r (read.Records (file_count bs)) (read.Refused r) (λ z. n (e ∙ z)));
-        leaves = sym (where_some r (put cs 0 (file_records bs)) cs (λ z. n (e ∙ z)));
-      }
-
-  pub read_done : (after : List ℕ) (n : ℕ) → r ≡ 0 → n ≡ file_count bs → after ≡ put cs 0 (file_records bs) → Reads bs cs after (read.Records n)
-  read_done after n z e l =
-      record {
-        answers = ap read.Records e ∙ sym (where_none r (read.Records (file_count bs)) (read.Refused r) z);
-        leaves = l ∙ sym (where_none r (put cs 0 (file_records bs)) cs z);
-      }
 
   pub read_does : (after : List ℕ) (x : Read) → Reads bs cs after x → r ≡ 0 → (x ≡ read.Records (file_count bs)) × (after ≡ put cs 0 (file_records bs))
   read_does after x d z =

@@ -48,11 +48,6 @@ returns-then-not-count_right c =
       third (goal.at.returns-then-not-count_right c).After-count_right ∙ c.if-not-count_right.true,
     )
 
-pub overflow_mul-count : goal.overflow_mul-count
-overflow_mul-count c =
-    let a = c.args in
-    omega (arith, c.read_byte-count.ensures, (counted a.s.now a.n a.k (third (goal.at.overflow_mul-count c).After-count_right ∙ c.if-not-count_right.false)).at_most)
-
 pub behind_right-requires : goal.behind_right-requires
 behind_right-requires c =
     let a = c.args in

@@ -4,7 +4,6 @@ use mathlib.Core.Bool.{true, cond}
 use mathlib.Core.List.{List, [], ◌∷◌, ◌++◌}
 use Prim.Native.Nat.{ℕ}
 use native.Mathlib.Omega.{arith}
-use borrow.Author.Rules.{rules}
 use Rattle.model.specs.Judged.{all}
 use Rattle.files.specs.Files.{blocks, file_block, file_records}
 use Rattle.refusals.specs.Refusals.{Test, first_failing, block_tests, records_right}
@@ -39,9 +38,6 @@ later f s e =
 pub returns-then-not-file_size_right : goal.returns-then-not-file_size_right
 unfolding first_failing
 returns-then-not-file_size_right c = rw (sym c.file_size_right.ensures ∙ c.if-not-file_size_right.true)
-
-pub count_refusal-first-requires : goal.count_refusal-first-requires
-count_refusal-first-requires c = size_passed (goal.at.count_refusal-first-requires c).Else-not-file_size_right
 
 pub loop-k-init : goal.loop-k-init
 loop-k-init c = c.count_refusal-first.ensures ∙ start c.args.s.now

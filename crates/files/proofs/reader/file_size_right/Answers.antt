@@ -1,7 +1,6 @@
 -- `files::file_size_right` meets its contract.
-use Rattle.std.proofs.Common.{rules, arith}
+use Rattle.std.proofs.Common.{rules}
 use borrow.Author.Tests.{tests}
-use Rattle.std.proofs.lemmas.Grind.{common_steps}
 use Rattle.files.specs.FileRefusals.{file_size_right}
 use Rattle.files.proofs.reader.file_size_right.Goals as goal
 

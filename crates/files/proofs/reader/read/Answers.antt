@@ -8,7 +8,6 @@ use Rattle.files.specs.FileRefusals.{read_refusal}
 use Rattle.files.proofs.FileSizes.{size_passes}
 use Rattle.files.proofs.FileTests.{count_fits}
 use Rattle.files.proofs.AcceptedFiles.{AcceptedFile, read_accepted}
-use Rattle.files.proofs.Outcomes.{read_refused, read_done}
 use Rattle.files.proofs.reader.read.Goals as goal
 use Rattle.files.proofs.reader.read.Goals.{Else-refusal-ne0}
 
@@ -19,11 +18,6 @@ taken : (c : Else-refusal-ne0)
     → AcceptedFile c.args.blocks.now × (record_bytes * file_count c.args.blocks.now ≤ length c.args.converter.now)
 taken c = read_accepted c.args.blocks.now (length c.args.converter.now) (passes c)
 
-pub returns-then-refusal-ne0 : goal.returns-then-refusal-ne0
-returns-then-refusal-ne0 c =
-    let a = c.args in
-    read_refused a.blocks.now a.converter.now c.read_refusal-refusal.result c.read_refusal-refusal.ensures c.if-refusal-ne0.true
-
 pub read_records-requires : goal.read_records-requires
 read_records-requires c =
     let f = c.args.blocks.now in
@@ -33,8 +27,3 @@ read_records-requires c =
 pub record_count-requires : goal.record_count-requires
 record_count-requires c =
     size_passes c.args.blocks.now (taken (goal.at.record_count-requires c).Else-refusal-ne0).0.size
-
-pub returns : goal.returns
-returns c =
-    let a = c.args in
-    read_done a.blocks.now a.converter.now c.read_records.new.converter c.record_count.result (passes (goal.at.returns c).Else-refusal-ne0) c.record_count.ensures c.read_records.ensures

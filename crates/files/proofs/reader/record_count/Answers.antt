@@ -16,11 +16,6 @@ read_byte-requires c =
     let z = sized c.args.s.now c.requires in
     omega (arith, c.block_count-last.ensures, z.some_block, z.whole)
 
-pub overflow_add-result : goal.overflow_add-result
-overflow_add-result c =
-    let n = c.block_count-last.result in
-    omega (arith, c.block_count-last.ensures, c.read_byte.ensures, (sized c.args.s.now c.requires).at_most, c.shared_slice_known-1.given (512 * (n - 1) + 1))
-
 pub returns : goal.returns
 unfolding file_count
 returns c =

@@ -1,18 +1,17 @@
 -- `files::write_blocks` meets its contract. The invariant: the first k blocks are put.
 use mathlib.Core.Path.{◌≡◌, sym, ap, ◌∙◌}
-use mathlib.Core.List.{List, flatten}
-use Prim.Native.Nat.{ℕ, ◌*◌, ◌≤◌}
+use mathlib.Core.List.{flatten}
+use Prim.Native.Nat.{◌*◌, ◌≤◌}
 use native.Mathlib.Omega.{arith}
-use borrow.Author.Rules.{rules}
 use lib.ListN.{length}
 use Rattle.layout.specs.Bytes.{put}
 use Rattle.layout.specs.Converters.{records}
 use Rattle.files.specs.Files.{blocks_for, written_block, written}
 use Rattle.layout.specs.Tables.{table, table_from}
-use Rattle.layout.proofs.Put.{put_nil, length_put}
+use Rattle.layout.proofs.Put.{put_nil}
 use Rattle.refusals.proofs.Accepted.{Accepted, accepted}
 use Rattle.files.proofs.AcceptedWrites.{write_accepted}
-use Rattle.files.proofs.WrittenFile.{first_blocks, length_first_blocks, put_next_block}
+use Rattle.files.proofs.WrittenFile.{first_blocks, put_next_block}
 use Rattle.files.proofs.writer.write_blocks.Goals as goal
 use Rattle.files.proofs.writer.write_blocks.Goals.{After-blocks_for-k-end, Start}
 
@@ -28,11 +27,6 @@ room : (c : After-blocks_for-k-end) → 512 * c.blocks_for-k-end.result ≤ leng
 room c =
     omega (arith, filled c, (write_accepted c.args.converter.now (length c.args.blocks.now) c.requires).1)
 
--- the slice keeps its length
-kept : (cs bs done : List ℕ) (k : ℕ) → Accepted cs → k ≤ blocks_for (records cs) → 512 * blocks_for (records cs) ≤ length bs → done ≡ put bs 0 (first_blocks cs k)
-    → length done ≡ length bs
-kept cs bs done k a h room e = ap length e ∙ length_put (first_blocks cs k) bs 0 (omega (arith, length_first_blocks cs a k h))
-
 pub blocks_for-k-end-requires : goal.blocks_for-k-end-requires
 blocks_for-k-end-requires c = omega (arith, c.count.ensures, (taken (goal.at.blocks_for-k-end-requires c).Start).at_most)
 
@@ -44,9 +38,7 @@ pub write_block-requires : goal.write_block-requires
 write_block-requires c = (
   (write_accepted c.args.converter.now (length c.args.blocks.now) c.requires).0,
   omega (arith, filled (goal.at.write_block-requires c).After-blocks_for-k-end),
-  (let f = filled (goal.at.write_block-requires c).After-blocks_for-k-end in
-      let r = room (goal.at.write_block-requires c).After-blocks_for-k-end in
-      omega (arith, kept c.args.converter.now c.args.blocks.now c.loop-k.blocks c.loop-k.k (taken (goal.at.write_block-requires c).Start) (omega arith) (omega arith) c.loop-k.invariant)),
+  omega (arith, filled (goal.at.write_block-requires c).After-blocks_for-k-end, room (goal.at.write_block-requires c).After-blocks_for-k-end, c.loop-k.auto.blocks),
 )
 
 pub loop-k-preserved : goal.loop-k-preserved
