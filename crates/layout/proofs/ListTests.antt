@@ -1,8 +1,12 @@
 -- The model's tests of lists are std's, and so are the tests over the first elements of a list.
 use Rattle.std.proofs.Common.{◌≡◌, ℕ, zero, suc, ◌≤◌, Bool, true, false, not, ◌&&◌, ◌||◌, List, [], ◌∷◌, length, get_or, take, sym, refl, ap, ◌∙◌, ap₂, add-one, arith}
 use Rattle.std.specs.Bool.{Decides}
+use Rattle.std.specs.Cmp.Lexicographic.{pointwise}
+use Rattle.std.specs.Ordering.{int_eq}
 use Rattle.std.specs.List.{list_all, list_any}
 use Rattle.std.proofs.lemmas.List.Folds.{list_all_more, list_any_more}
+use Rattle.std.proofs.lemmas.Bool.Decides.{same_from_decides, Decides-int_eq}
+use Rattle.std.proofs.lemmas.Slice.Eq.{slice_eq-Decides}
 use Rattle.model.specs.Events.{Event}
 use Rattle.model.specs.Judged.{all, same_events}
 use Rattle.model.proofs.Bools.{T_true}
@@ -15,9 +19,13 @@ unfolding all
 all_is_list_all p [] = refl
 all_is_list_all p (x ∷ xs) = ap (λ b. p x && b) (all_is_list_all p xs)
 
--- equal lists of events
-pub same_events_decides : (es fs : List Event) → Decides (same_events es fs) (es ≡ fs)
+-- lists of events, compared by `==`
+same_events_decides : (es fs : List Event) → Decides (same_events es fs) (es ≡ fs)
 same_events_decides es fs = (λ e. same_events_eq es fs (true_T _ e), λ e. T_true _ (eq_same_events es fs e))
+
+pub pointwise_is_same_events : (es fs : List Event) → pointwise int_eq es fs ≡ same_events es fs
+pointwise_is_same_events es fs =
+    same_from_decides _ _ (slice_eq-Decides Decides-int_eq es fs (pointwise int_eq es fs) refl) (same_events_decides es fs)
 
 -- ---- the first n elements: all of them pass, or one does
 or_not : (a b : Bool) → (not a || b) ≡ not (a && not b)

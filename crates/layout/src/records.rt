@@ -107,7 +107,7 @@ impl Record {
     {
         self.places[..usize::from(self.count)]
             .iter()
-            .any(|t| same_events(t.events, events))
+            .any(|t| t.events == events)
     }
 
     // One transition more, unless its events are there already or all places are used.
