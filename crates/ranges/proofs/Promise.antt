@@ -18,8 +18,10 @@ use Rattle.layout.proofs.Put.{length_put, drop_put}
 use Rattle.layout.proofs.Sealed.{part_put}
 use Rattle.refusals.specs.Refusals.{design_refusal}
 use Rattle.refusals.proofs.ByRefusal.{where_none, where_some}
-use Rattle.ranges.specs.declared.Answer.{Answer}
-use Rattle.ranges.specs.declared.Answer.TheVariants.{Done, Refused}
+use Rattle.std.specs.Prelude.{Result, Ok, Err}
+use Rattle.refusals.specs.declared.refusal.Refusal.{Refusal}
+use Rattle.refusals.specs.Answered.{Answer, done, refused, answered, number}
+use Rattle.refusals.proofs.Answered.{by_done}
 use Rattle.ranges.specs.Entries.{side_ranges}
 use Rattle.ranges.specs.Ranges.{ranges_refusal, ranged_design, Ranges}
 use Rattle.ranges.proofs.Refused.{passes}
@@ -28,38 +30,38 @@ use Rattle.ranges.proofs.NewDesign.{not_refused, runs_allowed}
 use Rattle.ranges.proofs.KeptBlocks.{block_kept, empty_copies}
 
 -- ---- which answer it gives
-module _ (ds es before : List ℕ) (a : Answer) (after : List ℕ) (p : Ranges ds es before a after) where
+module _ (ds es before : List ℕ) (a : Result (Unit {0}) Refusal) (after : List ℕ) (p : Ranges ds es before a after) where
   abbrev refusal : ℕ
   refusal = ranges_refusal ds es (length before)
 
-  goes_on : refusal ≡ 0 → a ≡ Done
-  goes_on e = p.answers ∙ where_none refusal Done (Refused refusal) e
+  goes_on : refusal ≡ 0 → answered a ≡ done tt
+  goes_on e = p.answers ∙ where_none refusal (done tt) (refused refusal) e
 
-  stops : (refusal ≡ 0 → ⊥) → a ≡ Refused refusal
-  stops n = p.answers ∙ where_some refusal Done (Refused refusal) n
+  stops : (refusal ≡ 0 → ⊥) → answered a ≡ refused refusal
+  stops n = p.answers ∙ where_some refusal (done tt) (refused refusal) n
 
-  pub says_done : (a ≡ Done) ↔ (ranges_refusal ds es (length before) ≡ 0)
-  says_done = ((λ e. elim (ℕ_discrete refusal 0) [ yes z ↦ z | no n ↦ absurd (apart (sym e ∙ stops n)) ]), goes_on)
+  pub says_done : (a ≡ Ok tt) ↔ (ranges_refusal ds es (length before) ≡ 0)
+  says_done = ((λ e. elim (ℕ_discrete refusal 0) [ yes z ↦ z | no n ↦ absurd (apart (sym (ap answered e) ∙ stops n)) ]), λ z. by_done a tt (goes_on z))
     where
-      apart : Done ≡ Refused refusal → ⊥
+      apart : ◌≡◌ {A = Answer (Unit {0})} (done tt) (refused refusal) → ⊥
       apart e = let z : ◌≡◌ {A = ℕ} 0 1 = cc in omega arith
 
-  pub says_refused : (k : ℕ) → (a ≡ Refused k) ↔ ((ranges_refusal ds es (length before) ≡ k) × (k ≡ 0 → ⊥))
+  pub says_refused : (k : ℕ) → (answered a ≡ refused k) ↔ ((ranges_refusal ds es (length before) ≡ k) × (k ≡ 0 → ⊥))
   says_refused k = (
     (λ e. elim (ℕ_discrete refusal 0) [ yes z ↦ absurd (apart (sym e ∙ goes_on z)) | no n ↦ let f = sym (stops n) ∙ e in (same f, λ z. n (same f ∙ z)) ]),
-    λ w. stops (λ z. w.1 (sym w.0 ∙ z)) ∙ ap Refused w.0,
+    λ w. stops (λ z. w.1 (sym w.0 ∙ z)) ∙ ap refused w.0,
   )
     where
-      apart : Refused k ≡ Done → ⊥
+      apart : ◌≡◌ {A = Answer (Unit {0})} (refused k) (done tt) → ⊥
       apart e = let z : ◌≡◌ {A = ℕ} 0 1 = cc in omega arith
 
-      same : Refused refusal ≡ Refused k → refusal ≡ k
+      same : ◌≡◌ {A = Answer (Unit {0})} (refused refusal) (refused k) → refusal ≡ k
       same e = cc
 
 -- ---- done
-module _ (ds es before after : List ℕ) (p : Ranges ds es before Done after) where
+module _ (ds es before after : List ℕ) (p : Ranges ds es before (Ok tt) after) where
   pub nothing_refused : ranges_refusal ds es (length before) ≡ 0
-  nothing_refused = (says_done ds es before Done after p).0 refl
+  nothing_refused = (says_done ds es before (Ok tt) after p).0 refl
 
   pub written : after ≡ put before 0 (ranged_design ds es)
   written = p.leaves ∙ where_none (ranges_refusal ds es (length before)) (put before 0 (ranged_design ds es)) before nothing_refused
@@ -110,13 +112,13 @@ module _ (ds es before after : List ℕ) (p : Ranges ds es before Done after) wh
       ∙ block_kept ds bytes (passes ds es room nothing_refused).designed i l es none
 
 -- with no entry it is the old design
-pub copied : (ds before after : List ℕ) → Ranges ds [] before Done after → ((i : ℕ) → byte ds i < 256) → part after 0 (length ds) ≡ ds
+pub copied : (ds before after : List ℕ) → Ranges ds [] before (Ok tt) after → ((i : ℕ) → byte ds i < 256) → part after 0 (length ds) ≡ ds
 copied ds before after p bytes = result_is ds [] before after p ∙ empty_copies ds bytes (passes ds [] (length before) (nothing_refused ds [] before after p)).designed
 
 -- ---- refused
-module _ (ds es before after : List ℕ) (k : ℕ) (p : Ranges ds es before (Refused k) after) where
-  pub refused_by : (ranges_refusal ds es (length before) ≡ k) × (k ≡ 0 → ⊥)
-  refused_by = (says_refused ds es before (Refused k) after p k).0 refl
+module _ (ds es before after : List ℕ) (e : Refusal) (p : Ranges ds es before (Err e) after) where
+  pub refused_by : (ranges_refusal ds es (length before) ≡ number e) × (number e ≡ 0 → ⊥)
+  refused_by = (says_refused ds es before (Err e) after p (number e)).0 refl
 
   pub nothing_written : after ≡ before
   nothing_written =

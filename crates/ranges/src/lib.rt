@@ -2,6 +2,7 @@
 #![tactic(auto)]
 
 ghost use Rattle.std.specs.Prelude.{◌≡◌};
+ghost use Rattle.refusals.specs.Answered.{refusal_of};
 ghost use Rattle.ranges.specs.Ranges.{ranges_refusal, Ranges};
 
 mod blocks;
@@ -11,44 +12,32 @@ mod tests;
 
 use layout::{designs, ranges as bytes};
 use refusals::design_tests;
+use refusals::refusal::Refusal;
 
-// "Done", or a refusal's number.
-#[derive(Clone, Copy)]
-pub enum Answer {
-    Done,
-    Refused(u8),
-}
-
-// The first of 1 to 8, 22, 23 and 12 that holds, with so much room lent for the result, and 0 where none does.
-fn ranges_refusal(design: &[u8], list: &[u8], room: usize) -> u8
-    ensures { result ≡ ranges_refusal design.now list.now room }
+// The first of 1 to 8, 22, 23 and 12 that holds, with so much room lent for the result.
+fn ranges_refusal(design: &[u8], list: &[u8], room: usize) -> Result<(), Refusal>
+    ensures { refusal_of result ≡ ranges_refusal design.now list.now room }
 {
-    let refusal = design_tests::design_refusal(design);
-    if refusal != 0 {
-        return refusal;
-    }
+    design_tests::design_refusal(design)?;
     if !tests::list_right(design, list) {
-        return 22;
+        return Err(Refusal::RangeList);
     }
     if !tests::sides_fit(design, list) {
-        return 23;
+        return Err(Refusal::SideSize);
     }
     if room < design.len() {
-        return 12;
+        return Err(Refusal::Room);
     }
-    0
+    Ok(())
 }
 
 // The design in which the states that the list names count their waits.
-pub fn ranges(design: &[u8], list: &[u8], res: &mut [u8]) -> Answer
+pub fn ranges(design: &[u8], list: &[u8], res: &mut [u8]) -> Result<(), Refusal>
     ensures { Ranges design.now list.now res.old result res.new }
 {
-    let refusal = ranges_refusal(design, list, res.len());
-    if refusal != 0 {
-        return Answer::Refused(refusal);
-    }
+    ranges_refusal(design, list, res.len())?;
     blocks::write_sides(design, list, res);
     let behind = designs::formulas_at(design);
     bytes::copy(design, behind, res, behind, design.len() - behind);
-    Answer::Done
+    Ok(())
 }
