@@ -1,5 +1,6 @@
 -- Tests 1 and 4 leave a design whose counts are within their limits; a side that has no block has one state.
 use mathlib.Core.Path.{◌≡◌, refl, ap, subst}
+use mathlib.Core.Bool.{true}
 use mathlib.Core.List.{List}
 use Prim.Native.Nat.{ℕ, zero, suc, ◌+◌, ◌≤◌, ◌<◌}
 use native.Mathlib.Decide.{dec_lt}
@@ -13,8 +14,9 @@ use Rattle.layout.specs.Sizes.{side_count, other_blocks, most_states}
 use Rattle.layout.specs.Blocks.{Block, kernel, formulas, rules, design_blocks, record_count}
 use Rattle.layout.specs.Designs.{held, Whole, side_block, design, side}
 use Rattle.refusals.specs.Counted.{block, Counted}
-use Rattle.refusals.specs.Refusals.{count_right}
-use Rattle.refusals.proofs.DesignBlocks.{blocks_long, side_is, formulas_is, rules_is}
+use Rattle.refusals.specs.Refusals.{length_right, count_right}
+use Rattle.refusals.proofs.DesignBlocks.{length_whole, blocks_long, side_is, formulas_is, rules_is}
+use Rattle.layout.proofs.Tables.{true_T}
 use Rattle.layout.proofs.DesignBytes.{resting_side, side_length, forms_length, rules_length}
 
 -- the limits of a side
@@ -64,3 +66,10 @@ module _ (bs : List ℕ) (counts : T (all (count_right bs) (design_blocks (held 
         few_formulas = omega (arith, forms_length bs, formulas_within.1);
         few_rules = omega (arith, rules_length bs, rules_within.1);
       }
+
+-- the tests of the code, 1 and 4
+pub long : (bs : List ℕ) → length_right bs ≡ true → Whole bs
+long bs e = (length_whole bs).0 (true_T (length_right bs) e)
+
+pub limits : (bs : List ℕ) → length_right bs ≡ true → all (count_right bs) (design_blocks (held bs)) ≡ true → Counted bs
+limits bs e f = counted bs (true_T (all (count_right bs) (design_blocks (held bs))) f) (long bs e)

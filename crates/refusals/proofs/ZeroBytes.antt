@@ -1,11 +1,9 @@
 -- A test for zeros, of two lists of bytes.
-use mathlib.Core.Path.{◌≡◌, ap}
-use mathlib.Core.Bool.{false, ◌&&◌}
-use mathlib.Core.List.{List, ◌∷◌, ◌++◌}
+use mathlib.Core.Path.{◌≡◌}
+use mathlib.Core.Bool.{◌&&◌}
+use mathlib.Core.List.{List, ◌++◌}
 use Prim.Native.Nat.{ℕ}
-use borrow.Author.Tests.{eq-eqb, ne_eqb}
 use lib.Dec.{eqb}
-use Rattle.model.specs.Judged.{all}
 use Rattle.layout.specs.Bytes.{all_zero}
 use Rattle.refusals.proofs.AllTests.{all_append}
 

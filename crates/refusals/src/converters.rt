@@ -103,7 +103,7 @@ fn gaps_right(s: &[u8], at: usize, n: usize) -> bool
     requires { (at + record_bytes ≤ length s.now) × (n ≤ place_count) }
     ensures { result ≡ all_zero (place_gaps n s.now at) }
 {
-    (0..n).all(|k| { s[at + sizes::PLACES_AT + sizes::TRANSITION_BYTES * k + sizes::SIDES] == 0 })
+    (0..n).all(|k| s[at + sizes::PLACES_AT + sizes::TRANSITION_BYTES * k + sizes::SIDES] == 0)
 }
 
 // Whether the record at `at` is right, in a converter of n records (11).
@@ -131,6 +131,7 @@ pub fn records_right(s: &[u8]) -> bool
 }
 
 // The first of 10 and 11 that bytes fail, which are then no converter.
+#[tactic(auto, using(std::proofs::lemmas::Bool::Decides::nat_tests), unfolding(crate::specs::Refusals::converter_refusal, crate::specs::Refusals::first_failing))]
 pub fn converter_refusal(s: &[u8]) -> Result<(), Refusal>
     ensures { refusal_of result ≡ converter_refusal s.now }
 {

@@ -204,6 +204,7 @@ fn unused_right(s: &[u8]) -> bool
 }
 
 // The first of 1 to 8 that a design fails.
+#[tactic(auto, using(std::proofs::lemmas::Bool::Decides::nat_tests, crate::proofs::CountedBytes::long, crate::proofs::CountedBytes::limits), unfolding(crate::specs::Refusals::design_refusal, crate::specs::Refusals::first_failing))]
 pub fn design_refusal(s: &[u8]) -> Result<(), Refusal>
     ensures { refusal_of result ≡ design_refusal s.now }
 {
