@@ -24,19 +24,6 @@ pub struct Runner {
     pub third: i8,
 }
 
-impl Runner {
-    // The runner at another record, with these events delivered.
-    fn moved(mut self, next: u16, first: i8, second: i8, third: i8) -> Self
-        ensures { result ≡ record { «record» = next; first = first; second = second; third = third } }
-    {
-        self.record = next;
-        self.first = first;
-        self.second = second;
-        self.third = third;
-        self
-    }
-}
-
 // "done", or a refusal's number.
 #[derive(Clone, Copy)]
 pub enum Answer {
@@ -57,53 +44,32 @@ pub struct Ticked {
 fn can_show(x: i8) -> bool
     ensures { result ≡ can_show x }
 {
-    if 0 < x {
-        return false;
-    }
-    events::in_range(x)
+    x <= 0 && events::in_range(x)
 }
 
 // The same of all sides.
 fn can_show_all(shown: [i8; sizes::SIDES]) -> bool
     ensures { result ≡ all can_show shown }
 {
-    let mut i = 0;
-    // The first i sides can.
-    while i < sizes::SIDES {
-        if !can_show(shown[i]) {
-            return false;
-        }
-        i += 1;
-    }
-    true
+    shown.iter().all(|&x| can_show(x))
 }
 
 // Whether a shown event fits an event of its side: the event that it equals, and 0 any event that is not sent.
 fn fits_event(shown: i8, event: i8) -> bool
     ensures { result ≡ fits shown event }
 {
-    if 0 < shown {
-        return false;
+    if shown == 0 {
+        0 <= event
+    } else {
+        shown < 0 && shown == event
     }
-    if 0 <= shown {
-        return 0 <= event;
-    }
-    events::same(shown, event)
 }
 
 // The same of all sides.
 fn fits_events(shown: [i8; sizes::SIDES], events: [i8; sizes::SIDES]) -> bool
     ensures { result ≡ all_fit shown events }
 {
-    let mut i = 0;
-    // Those of the first i sides fit.
-    while i < sizes::SIDES {
-        if !fits_event(shown[i], events[i]) {
-            return false;
-        }
-        i += 1;
-    }
-    true
+    shown.iter().zip(&events).all(|(&x, &e)| fits_event(x, e))
 }
 
 // ---- the tick
@@ -133,25 +99,27 @@ fn take_first(s: &[u8], c: usize, runner: Runner, shown: [i8; sizes::SIDES]) -> 
     requires { (c < records s.now) × (record_right s.now (records s.now) (record_bytes * c) ≡ true) }
     ensures { result ≡ taken runner (first_fit shown (node (converter s.now) c).edges) }
 {
-    let n = converters::edge_count(s, c);
-    let mut k = 0;
     // None of the first k transitions fits.
-    while k < n {
+    for k in 0..converters::edge_count(s, c) {
         let t = converters::edge_at(s, c, k);
         // The sides' events are the duals of those in the record.
-        let e = t.events;
-        let events = events::duals(e);
+        let events = events::duals(t.events);
         if fits_events(shown, events) {
+            let [first, second, third] = events;
             return Ticked {
                 answer: Answer::Done,
-                runner: runner.moved(t.next, events[0], events[1], events[2]),
+                runner: Runner {
+                    record: t.next,
+                    first,
+                    second,
+                    third,
+                },
             };
         }
-        k += 1;
     }
     Ticked {
         answer: Answer::Refused(17),
-        runner: runner,
+        runner,
     }
 }
 
@@ -159,13 +127,13 @@ fn take_first(s: &[u8], c: usize, runner: Runner, shown: [i8; sizes::SIDES]) -> 
 pub fn step(converter: &[u8], runner: Runner, first: i8, second: i8, third: i8) -> Ticked
     ensures { result ≡ ticked converter.now runner (first ∷ second ∷ third ∷ []) }
 {
-    let c = runner.record as usize;
+    let c = usize::from(runner.record);
     let shown = [first, second, third];
     let refusal = tick_refusal(converter, c, shown);
     if refusal != 0 {
         return Ticked {
             answer: Answer::Refused(refusal),
-            runner: runner,
+            runner,
         };
     }
     take_first(converter, c, runner, shown)

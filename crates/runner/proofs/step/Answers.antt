@@ -29,7 +29,7 @@ read c =
 -- the tests' answer
 tested : (c : After-tick_refusal-refusal) → c.tick_refusal-refusal.result ≡ tick_refusal c.args.converter.now c.args.runner.«record» (c.args.first ∷ c.args.second ∷ c.args.third ∷ [])
 tested c =
-    c.tick_refusal-refusal.ensures ∙ ap (tick_refusal c.args.converter.now c.args.runner.«record») (ap₂ {C = List Event} ◌∷◌ (read_back c.args.first c.ranges.first.sfits) (ap₂ {C = List Event} (λ x y. x ∷ y ∷ []) (read_back c.args.second c.ranges.second.sfits) (read_back c.args.third c.ranges.third.sfits)))
+    c.tick_refusal-refusal.ensures ∙ ap₂ (tick_refusal c.args.converter.now) c.from-c.ensures (ap₂ {C = List Event} ◌∷◌ (read_back c.args.first c.ranges.first.sfits) (ap₂ {C = List Event} (λ x y. x ∷ y ∷ []) (read_back c.args.second c.ranges.second.sfits) (read_back c.args.third c.ranges.third.sfits)))
 
 pub returns-then-refusal-ne0 : goal.returns-then-refusal-ne0
 returns-then-refusal-ne0 c =
@@ -39,10 +39,10 @@ returns-then-refusal-ne0 c =
 pub take_first-requires : goal.take_first-requires
 take_first-requires c =
     let p = passes c.args.converter.now c.args.runner.«record» (shown (goal.at.take_first-requires c).Start) (sym (tested (goal.at.take_first-requires c).After-tick_refusal-refusal) ∙ c.if-refusal-ne0.false) in
-    (p.there, p.right)
+    rw c.from-c.ensures (p.there, p.right)
 
 pub returns : goal.returns
 returns c =
     c.take_first.ensures
-    ∙ ap (λ xs. taken c.args.runner (first_fit xs (node (converter c.args.converter.now) c.args.runner.«record»).edges)) (read (goal.at.returns c).Start)
+    ∙ ap₂ (λ r xs. taken c.args.runner (first_fit xs (node (converter c.args.converter.now) r).edges)) c.from-c.ensures (read (goal.at.returns c).Start)
     ∙ sym (goes_on c.args.converter.now c.args.runner (shown (goal.at.returns c).Start) (sym (tested (goal.at.returns c).After-tick_refusal-refusal) ∙ c.if-refusal-ne0.false))

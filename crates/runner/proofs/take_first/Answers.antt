@@ -4,19 +4,24 @@ use Prim.Native.Nat.{◌<◌}
 use native.Mathlib.Omega.{arith}
 use borrow.Author.Rules.{rules}
 use lib.ListN.{length, get_or}
-use Rattle.model.specs.Events.{tick}
+use mir.Syntax.{w8}
+use mir.Val.{to_z, of_z}
+use Rattle.model.specs.Events.{Event, tick}
 use Rattle.model.specs.Converters.{Edge, Node, node, edge, side_events}
 use Rattle.model.specs.Runs.{all_fit}
 use Rattle.layout.specs.Sizes.{place_count}
 use Rattle.layout.specs.Converters.{records, converter}
 use Rattle.layout.proofs.Nodes.{WellFormedNode}
-use Rattle.layout.proofs.SignedBytes.{read_back}
 use Rattle.refusals.proofs.Accepted.{events_length, right_well_formed}
 use Rattle.runner.specs.declared.Answer.TheVariants.{Done}
 use Rattle.runner.specs.Ticks.{taken}
 use Rattle.runner.proofs.FirstFit.{fits_here, fits_later, fits_nowhere}
 use Rattle.runner.proofs.take_first.Goals as goal
 use Rattle.runner.proofs.take_first.Goals.{After-duals-events, After-fits_events, In-loop-k, Start}
+
+-- as the machine reads an event back
+abbrev again : Event → Event
+again x = to_z w8 (of_z w8 x)
 
 -- record c as a converter state
 abbrev here : Start → Node
@@ -30,13 +35,13 @@ tried c = edge (node (converter c.args.s.now) c.args.c) c.loop-k.k
 
 -- it is there
 there : (c : In-loop-k) → c.loop-k.k < length (node (converter c.args.s.now) c.args.c).edges
-there c = omega (arith, c.edge_count-n.ensures)
+there c = omega (arith, c.edge_count-k-end.ensures)
 
 placed : (c : In-loop-k) → c.loop-k.k < place_count
 placed c = omega (arith, there c, (right_well_formed c.args.s.now c.args.c c.requires.0 c.requires.1).at_most_eight)
 
 pub loop-k-init : goal.loop-k-init
-loop-k-init c = (refl, search rules)
+loop-k-init c = refl
 
 pub edge_at-t-requires : goal.edge_at-t-requires
 edge_at-t-requires c = (c.requires.0, there (goal.at.edge_at-t-requires c).In-loop-k, placed (goal.at.edge_at-t-requires c).In-loop-k)
@@ -58,25 +63,25 @@ pub returns-then-fits_events : goal.returns-then-fits_events
 unfolding taken
 returns-then-fits_events c =
     let l = c.loop-k in
-    let p = l.invariant.0 ∙ fits_here c.args.shown (here (goal.at.returns-then-fits_events c).Start).edges l.k (there (goal.at.returns-then-fits_events c).In-loop-k) (sym (asked (goal.at.returns-then-fits_events c).After-fits_events) ∙ c.if-fits_events.true) in
+    let p = l.invariant ∙ fits_here c.args.shown (here (goal.at.returns-then-fits_events c).Start).edges l.k (there (goal.at.returns-then-fits_events c).In-loop-k) (sym (asked (goal.at.returns-then-fits_events c).After-fits_events) ∙ c.if-fits_events.true) in
     let q = c.duals-events.result in
     let m = made (goal.at.returns-then-fits_events c).After-duals-events in
     let next = ap (λ x. x.next) c.edge_at-t.ensures in
-    let first = read_back (get_or q 0 tick) c.moved-arg-1.given ∙ ap (λ es. get_or es 0 tick) m in
-    let second = read_back (get_or q 1 tick) c.moved-arg-then-fits_events-1.given ∙ ap (λ es. get_or es 1 tick) m in
-    let third = read_back (get_or q 2 tick) c.moved-arg-then-fits_events-2-1.given ∙ ap (λ es. get_or es 2 tick) m in
-    ap (λ r. record { answer = Done; runner = r }) c.moved.ensures
-    ∙ (λ i. record { answer = Done; runner = record { «record» = next i; first = first i; second = second i; third = third i } })
+    let first : again (get_or q 0 tick) ≡ get_or q 0 tick = search rules in
+    let second : again (get_or q 1 tick) ≡ get_or q 1 tick = search rules in
+    let third : again (get_or q 2 tick) ≡ get_or q 2 tick = search rules in
+    (λ i. record { answer = Done; runner = record { «record» = next i; first = first i; second = second i; third = third i } })
+    ∙ ap (λ es. record { answer = Done; runner = record { «record» = (tried (goal.at.returns-then-fits_events c).In-loop-k).next; first = get_or es 0 tick; second = get_or es 1 tick; third = get_or es 2 tick } }) m
     ∙ sym (ap (taken c.args.runner) p)
 
 pub loop-k-preserved : goal.loop-k-preserved
 loop-k-preserved c =
     let l = c.loop-k in
-    (l.invariant.0 ∙ fits_later c.args.shown (here (goal.at.loop-k-preserved c).Start).edges l.k (there (goal.at.loop-k-preserved c).In-loop-k) (sym (asked (goal.at.loop-k-preserved c).After-fits_events) ∙ c.if-fits_events.false), search rules)
+    l.invariant ∙ fits_later c.args.shown (here (goal.at.loop-k-preserved c).Start).edges l.k (there (goal.at.loop-k-preserved c).In-loop-k) (sym (asked (goal.at.loop-k-preserved c).After-fits_events) ∙ c.if-fits_events.false)
 
 pub returns : goal.returns
 unfolding taken
 returns c =
     let l = c.loop-k in
-    let e : l.k ≡ length (here (goal.at.returns c).Start).edges = omega (arith, c.edge_count-n.ensures) in
-    sym (ap (taken c.args.runner) (l.invariant.0 ∙ fits_nowhere c.args.shown (here (goal.at.returns c).Start).edges l.k e))
+    let e : l.k ≡ length (here (goal.at.returns c).Start).edges = omega (arith, c.edge_count-k-end.ensures) in
+    sym (ap (taken c.args.runner) (l.invariant ∙ fits_nowhere c.args.shown (here (goal.at.returns c).Start).edges l.k e))
