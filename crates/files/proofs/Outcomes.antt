@@ -5,10 +5,10 @@ use Prim.Native.Nat.{ℕ}
 use native.Mathlib.Decide.{ℕ_discrete}
 use native.Mathlib.Omega.{arith}
 use lib.ListN.{length}
-use Rattle.files.specs.declared.answers.Written.{Written}
-use Rattle.files.specs.declared.answers.Written.TheVariants.{Blocks, Refused}
-use Rattle.files.specs.declared.answers.Read.{Read}
-use Rattle.files.specs.declared.answers.Read.TheVariants as read
+use Rattle.std.specs.Prelude.{Result, Ok}
+use Rattle.refusals.specs.declared.refusal.Refusal.{Refusal}
+use Rattle.refusals.specs.Answered.{Answer, done, refused}
+use Rattle.refusals.proofs.Answered.{by_done}
 use Rattle.layout.specs.Bytes.{put}
 use Rattle.layout.specs.Converters.{records}
 use Rattle.refusals.proofs.ByRefusal.{where_none, where_some}
@@ -21,17 +21,17 @@ module _ (cs bs : List ℕ) where
   w = write_refusal cs (length bs)
 
   -- where nothing is refused, it is done; and an answer with a count says that nothing is
-  pub write_does : (after : List ℕ) (x : Written) → Writes cs bs after x → w ≡ 0 → (x ≡ Blocks (blocks_for (records cs))) × (after ≡ put bs 0 (written cs))
+  pub write_does : (after : List ℕ) (x : Result ℕ Refusal) → Writes cs bs after x → w ≡ 0 → (x ≡ Ok (blocks_for (records cs))) × (after ≡ put bs 0 (written cs))
   write_does after x d z =
-      (d.answers ∙ where_none w (Blocks (blocks_for (records cs))) (Refused w) z, d.leaves ∙ where_none w (put bs 0 (written cs)) bs z)
+      (by_done x _ (d.answers ∙ where_none w (done (blocks_for (records cs))) (refused w) z), d.leaves ∙ where_none w (put bs 0 (written cs)) bs z)
 
-  pub write_passed : (after : List ℕ) (n : ℕ) → Writes cs bs after (Blocks n) → w ≡ 0
+  pub write_passed : (after : List ℕ) (n : ℕ) → Writes cs bs after (Ok n) → w ≡ 0
   write_passed after n d = by (ℕ_discrete w 0)
     where
       by : Dec (w ≡ 0) → w ≡ 0
       by (yes z) = z
       by (no x) =
-          let e : Blocks n ≡ Refused w = d.answers ∙ where_some w (Blocks (blocks_for (records cs))) (Refused w) x in
+          let e : ◌≡◌ {A = Answer ℕ} (done n) (refused w) = d.answers ∙ where_some w (done (blocks_for (records cs))) (refused w) x in
           let z : ◌≡◌ {A = ℕ} 0 1 = cc in
           absurd (omega arith)
 
@@ -39,16 +39,16 @@ module _ (bs cs : List ℕ) where
   abbrev r : ℕ
   r = read_refusal bs (length cs)
 
-  pub read_does : (after : List ℕ) (x : Read) → Reads bs cs after x → r ≡ 0 → (x ≡ read.Records (file_count bs)) × (after ≡ put cs 0 (file_records bs))
+  pub read_does : (after : List ℕ) (x : Result ℕ Refusal) → Reads bs cs after x → r ≡ 0 → (x ≡ Ok (file_count bs)) × (after ≡ put cs 0 (file_records bs))
   read_does after x d z =
-      (d.answers ∙ where_none r (read.Records (file_count bs)) (read.Refused r) z, d.leaves ∙ where_none r (put cs 0 (file_records bs)) cs z)
+      (by_done x _ (d.answers ∙ where_none r (done (file_count bs)) (refused r) z), d.leaves ∙ where_none r (put cs 0 (file_records bs)) cs z)
 
-  pub read_passed : (after : List ℕ) (n : ℕ) → Reads bs cs after (read.Records n) → r ≡ 0
+  pub read_passed : (after : List ℕ) (n : ℕ) → Reads bs cs after (Ok n) → r ≡ 0
   read_passed after n d = by (ℕ_discrete r 0)
     where
       by : Dec (r ≡ 0) → r ≡ 0
       by (yes z) = z
       by (no x) =
-          let e : read.Records n ≡ read.Refused r = d.answers ∙ where_some r (read.Records (file_count bs)) (read.Refused r) x in
+          let e : ◌≡◌ {A = Answer ℕ} (done n) (refused r) = d.answers ∙ where_some r (done (file_count bs)) (refused r) x in
           let z : ◌≡◌ {A = ℕ} 0 1 = cc in
           absurd (omega arith)

@@ -5,10 +5,8 @@ use mathlib.Core.List.{List}
 use Prim.Native.Nat.{ℕ, ◌+◌, ◌*◌, ◌≤◌, ◌<◌}
 use native.Mathlib.Omega.{arith}
 use lib.ListN.{length, take}
-use Rattle.files.specs.declared.answers.Written.{Written}
-use Rattle.files.specs.declared.answers.Written.TheVariants.{Blocks}
-use Rattle.files.specs.declared.answers.Read.{Read}
-use Rattle.files.specs.declared.answers.Read.TheVariants as read
+use Rattle.std.specs.Prelude.{Result, Ok}
+use Rattle.refusals.specs.declared.refusal.Refusal.{Refusal}
 use Rattle.layout.specs.Sizes.{record_bytes, block_bytes}
 use Rattle.layout.specs.Bytes.{byte, put}
 use Rattle.layout.specs.Converters.{records}
@@ -65,7 +63,7 @@ taken_again bs vs n e h =
     ap (λ i. take i (put bs 0 vs)) z ∙ take_put vs bs 0 (omega arith)
 
 -- The writer answered n blocks: the reader, lent these and room for the converter, answers its record count and leaves the converter at the front.
-module _ (cs bs after : List ℕ) (n : ℕ) (wrote : Writes cs bs after (Blocks n)) where
+module _ (cs bs after : List ℕ) (n : ℕ) (wrote : Writes cs bs after (Ok n)) where
   passed : write_refusal cs (length bs) ≡ 0
   passed = write_passed cs bs after n wrote
 
@@ -75,21 +73,21 @@ module _ (cs bs after : List ℕ) (n : ℕ) (wrote : Writes cs bs after (Blocks 
   -- the blocks are the converter's file
   file : take (block_bytes * n) after ≡ written cs
   file =
-      let d = write_does cs bs after (Blocks n) wrote passed in
+      let d = write_does cs bs after (Ok n) wrote passed in
       let e : n ≡ blocks_for (records cs) = cc d.0 in
       let l = length_written cs (accepted cs known) in
       ap (take (block_bytes * n)) d.1 ∙ taken_again bs (written cs) (block_bytes * n) (omega arith) (omega (arith, (write_accepted cs (length bs) passed).1))
 
-  pub read_of_write : (table left : List ℕ) (x : Read) → length cs ≤ length table → Reads (take (block_bytes * n) after) table left x
-      → (x ≡ read.Records (records cs)) × (left ≡ put table 0 cs)
+  pub read_of_write : (table left : List ℕ) (x : Result ℕ Refusal) → length cs ≤ length table → Reads (take (block_bytes * n) after) table left x
+      → (x ≡ Ok (records cs)) × (left ≡ put table 0 cs)
   read_of_write table left x room reads =
       let d : Reads (written cs) table left x = subst (λ b. Reads b table left x) file reads in
       let z = read_accepts (written cs) (length table) (accepted_back cs (accepted cs known)) (omega (arith, written_count cs known, (accepted cs known).whole)) in
       let r = read_does (written cs) table left x d z in
-      (r.0 ∙ ap read.Records (written_count cs known), r.1 ∙ ap (put table 0) (written_records cs known))
+      (r.0 ∙ ap Ok (written_count cs known), r.1 ∙ ap (put table 0) (written_records cs known))
 
 -- The reader answered n records: the writer, lent these and room for the file, answers its block count and leaves the file at the front.
-module _ (bs cs after : List ℕ) (n : ℕ) (bytes : (i : ℕ) → byte bs i < 256) (read_it : Reads bs cs after (read.Records n)) where
+module _ (bs cs after : List ℕ) (n : ℕ) (bytes : (i : ℕ) → byte bs i < 256) (read_it : Reads bs cs after (Ok n)) where
   none : read_refusal bs (length cs) ≡ 0
   none = read_passed bs cs after n read_it
 
@@ -99,17 +97,17 @@ module _ (bs cs after : List ℕ) (n : ℕ) (bytes : (i : ℕ) → byte bs i < 2
   -- the records are the file's
   converter : take (record_bytes * n) after ≡ file_records bs
   converter =
-      let d = read_does bs cs after (read.Records n) read_it none in
+      let d = read_does bs cs after (Ok n) read_it none in
       let e : n ≡ file_count bs = cc d.0 in
       let l = length_file_records bs in
       ap (take (record_bytes * n)) d.1 ∙ taken_again cs (file_records bs) (record_bytes * n) (omega arith) (omega (arith, (read_accepted bs (length cs) none).1))
 
-  pub write_of_read : (table left : List ℕ) (x : Written) → length bs ≤ length table → Writes (take (record_bytes * n) after) table left x
-      → (x ≡ Blocks (blocks bs)) × (left ≡ put table 0 bs)
+  pub write_of_read : (table left : List ℕ) (x : Result ℕ Refusal) → length bs ≤ length table → Writes (take (record_bytes * n) after) table left x
+      → (x ≡ Ok (blocks bs)) × (left ≡ put table 0 bs)
   write_of_read table left x room writes =
       let d : Writes (file_records bs) table left x = subst (λ c. Writes c table left x) converter writes in
       let z =
       write_accepts (file_records bs) (length table) (accepts (file_records bs) (converter_read bs here bytes))
       (omega (arith, blocks_read bs here bytes, here.size.whole)) in
       let r = write_does (file_records bs) table left x d z in
-      (r.0 ∙ ap Blocks (blocks_read bs here bytes), r.1 ∙ ap (put table 0) (written_back bs here bytes))
+      (r.0 ∙ ap Ok (blocks_read bs here bytes), r.1 ∙ ap (put table 0) (written_back bs here bytes))

@@ -2,13 +2,14 @@
 ghost use Rattle.std.specs.Prelude.{◌≡◌, true, cond, ◌+◌, ◌*◌, ◌/◌, ◌%◌, ◌<◌, ◌≤◌, leb, length};
 ghost use Rattle.layout.specs.Sizes.{record_bytes, block_bytes, records_in_block, block_records, most_records, most_blocks};
 ghost use Rattle.layout.specs.Bytes.{put};
+ghost use Rattle.refusals.specs.Answered.{refusal_of};
 ghost use Rattle.refusals.specs.Refusals.{first_failing, block_tests, records_right};
 ghost use Rattle.files.specs.Files.{blocks, file_block, file_count, file_records};
 ghost use Rattle.files.specs.FileRefusals.{earlier, file_size_right, file_tests, read_refusal};
 ghost use Rattle.files.specs.Answers.{Reads};
 
-use crate::answers::Read;
 use layout::{ranges, sizes, words};
+use refusals::refusal::Refusal;
 use refusals::{blocks, converters};
 
 // How many blocks there are.
@@ -33,41 +34,39 @@ fn least_count(n: usize, k: usize) -> usize
     if k + 1 == n { 1 } else { sizes::BLOCK_RECORDS }
 }
 
-// The first of 2, 3, 4 and 8 that block k of n fails, and 0 where it passes.
-fn block_refusal(s: &[u8], n: usize, k: usize) -> u8
+// The first of 2, 3, 4 and 8 that block k of n fails.
+fn block_refusal(s: &[u8], n: usize, k: usize) -> Result<(), Refusal>
     requires { (k < n) × (n ≤ most_blocks) × (block_bytes * n ≤ length s.now) }
-    ensures { result ≡ first_failing (block_tests s.now (file_block n k)) }
+    ensures { refusal_of result ≡ first_failing (block_tests s.now (file_block n k)) }
 {
     let at = sizes::BLOCK_BYTES * k;
     let first = (sizes::BLOCK_RECORDS * k) as u16;
     if !blocks::check_right(s, at) {
-        return 2;
+        return Err(Refusal::BlockCheck);
     }
     if !blocks::header_right(s, at, usize::from(sizes::CONVERTER_KIND), first) {
-        return 3;
+        return Err(Refusal::BlockHeader);
     }
     if !blocks::count_right(s, at, least_count(n, k), sizes::BLOCK_RECORDS) {
-        return 4;
+        return Err(Refusal::RecordCount);
     }
     let count = words::read_byte(s, at + sizes::COUNT_IN_BLOCK);
     if !blocks::behind_right(s, at, sizes::RECORD_BYTES * count) {
-        return 8;
+        return Err(Refusal::UnusedByte);
     }
-    0
+    Ok(())
 }
 
 // ---- all blocks
 
-// Of two refusals the one that comes first, where 0 is none.
-fn earlier(a: u8, b: u8) -> u8
-    ensures { result ≡ earlier a b }
+// Of two answers the refusal that comes first.
+fn earlier(a: Result<(), Refusal>, b: Result<(), Refusal>) -> Result<(), Refusal>
+    ensures { refusal_of result ≡ earlier (refusal_of a) (refusal_of b) }
 {
-    if a == 0 {
-        b
-    } else if b == 0 {
-        a
-    } else {
-        a.min(b)
+    match (a, b) {
+        (Ok(()), _) => b,
+        (_, Ok(())) => a,
+        (Err(x), Err(y)) => { if x.number() <= y.number() { a } else { b } }
     }
 }
 
@@ -81,15 +80,15 @@ pub fn record_count(s: &[u8]) -> usize
         + words::read_byte(s, sizes::BLOCK_BYTES * last + sizes::COUNT_IN_BLOCK)
 }
 
-// 4 where that is over 65,536, and 0 otherwise.
-fn count_refusal(s: &[u8]) -> u8
+// 4 where that is over 65,536.
+fn count_refusal(s: &[u8]) -> Result<(), Refusal>
     requires { file_size_right s.now ≡ true }
-    ensures { result ≡ cond (leb (file_count s.now) most_records) 0 4 }
+    ensures { refusal_of result ≡ cond (leb (file_count s.now) most_records) 0 4 }
 {
     if sizes::MOST_RECORDS < record_count(s) {
-        return 4;
+        return Err(Refusal::RecordCount);
     }
-    0
+    Ok(())
 }
 
 // Where record j stands.
@@ -128,13 +127,13 @@ fn read_records(s: &[u8], converter: &mut [u8])
     }
 }
 
-// The first of 1 to 4, 8 and 11 that holds, and 0 where none does. Each block is tested once: the first refusal of the file is the earliest that
+// The first of 1 to 4, 8 and 11 that holds. Each block is tested once: the first refusal of the file is the earliest that
 // any of its blocks gives.
-pub fn file_refusal(s: &[u8]) -> u8
-    ensures { result ≡ first_failing (file_tests s.now) }
+pub fn file_refusal(s: &[u8]) -> Result<(), Refusal>
+    ensures { refusal_of result ≡ first_failing (file_tests s.now) }
 {
     if !file_size_right(s) {
-        return 1;
+        return Err(Refusal::Length);
     }
     let n = block_count(s);
     let mut first = count_refusal(s);
@@ -142,37 +141,29 @@ pub fn file_refusal(s: &[u8]) -> u8
     for k in 0..n {
         first = earlier(first, block_refusal(s, n, k));
     }
-    if first != 0 {
-        return first;
-    }
+    first?;
     if !file_records_right(s) {
-        return 11;
+        return Err(Refusal::ConverterRecord);
     }
-    0
+    Ok(())
 }
 
 // The same, then 12 with so much room lent for the records.
-pub fn read_refusal(s: &[u8], room: usize) -> u8
-    ensures { result ≡ read_refusal s.now room }
+pub fn read_refusal(s: &[u8], room: usize) -> Result<(), Refusal>
+    ensures { refusal_of result ≡ read_refusal s.now room }
 {
-    let refusal = file_refusal(s);
-    if refusal != 0 {
-        return refusal;
-    }
+    file_refusal(s)?;
     if room < sizes::RECORD_BYTES * record_count(s) {
-        return 12;
+        return Err(Refusal::Room);
     }
-    0
+    Ok(())
 }
 
 // Blocks to a converter; the answer is how many records it has. Every test comes before the first byte is written.
-pub fn read(blocks: &[u8], converter: &mut [u8]) -> Read
+pub fn read(blocks: &[u8], converter: &mut [u8]) -> Result<usize, Refusal>
     ensures { Reads blocks.now converter.old converter.new result }
 {
-    let refusal = read_refusal(blocks, converter.len());
-    if refusal != 0 {
-        return Read::Refused(refusal);
-    }
+    read_refusal(blocks, converter.len())?;
     read_records(blocks, converter);
-    Read::Records(record_count(blocks))
+    Ok(record_count(blocks))
 }

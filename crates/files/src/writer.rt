@@ -3,14 +3,15 @@ ghost use Rattle.std.specs.Prelude.{◌≡◌, ◌+◌, ◌-◌, ◌*◌, ◌<�
 ghost use Rattle.layout.specs.Sizes.{block_bytes, block_records, most_records};
 ghost use Rattle.layout.specs.Bytes.{put};
 ghost use Rattle.layout.specs.Converters.{records};
+ghost use Rattle.refusals.specs.Answered.{refusal_of};
 ghost use Rattle.refusals.specs.Refusals.{converter_refusal};
 ghost use Rattle.files.specs.Files.{blocks_for, written_block, written};
 ghost use Rattle.files.specs.FileRefusals.{write_refusal};
 ghost use Rattle.files.specs.Answers.{Writes};
 
-use crate::answers::Written;
 use layout::sizes;
 use refusals::converters;
+use refusals::refusal::Refusal;
 
 // How many blocks n records fill.
 pub fn blocks_for(n: usize) -> usize
@@ -20,18 +21,15 @@ pub fn blocks_for(n: usize) -> usize
     n.div_ceil(sizes::BLOCK_RECORDS)
 }
 
-// The first of 10 to 12 that holds, with so much room lent for the blocks, and 0 where none does.
-pub fn write_refusal(converter: &[u8], room: usize) -> u8
-    ensures { result ≡ write_refusal converter.now room }
+// The first of 10 to 12 that holds, with so much room lent for the blocks.
+pub fn write_refusal(converter: &[u8], room: usize) -> Result<(), Refusal>
+    ensures { refusal_of result ≡ write_refusal converter.now room }
 {
-    let refusal = converters::converter_refusal(converter);
-    if refusal != 0 {
-        return refusal;
-    }
+    converters::converter_refusal(converter)?;
     if room < sizes::BLOCK_BYTES * blocks_for(converters::count(converter)) {
-        return 12;
+        return Err(Refusal::Room);
     }
-    0
+    Ok(())
 }
 
 // How many records block k holds, of n.
@@ -73,13 +71,10 @@ fn write_blocks(converter: &[u8], blocks: &mut [u8])
 }
 
 // A converter to blocks; the answer is how many they are.
-pub fn write(converter: &[u8], blocks: &mut [u8]) -> Written
+pub fn write(converter: &[u8], blocks: &mut [u8]) -> Result<usize, Refusal>
     ensures { Writes converter.now blocks.old blocks.new result }
 {
-    let refusal = write_refusal(converter, blocks.len());
-    if refusal != 0 {
-        return Written::Refused(refusal);
-    }
+    write_refusal(converter, blocks.len())?;
     write_blocks(converter, blocks);
-    Written::Blocks(blocks_for(converters::count(converter)))
+    Ok(blocks_for(converters::count(converter)))
 }
