@@ -15,21 +15,22 @@ use Rattle.layout.specs.Converters.{records, converter}
 use Rattle.refusals.specs.Refusals.{design_refusal, converter_refusal}
 use Rattle.layout.proofs.Put.{length_put}
 use Rattle.refusals.proofs.Accepted.{accepted}
-use Rattle.search.specs.declared.Outcome.{Outcome}
-use Rattle.search.specs.declared.Outcome.TheVariants.{Found, Refused}
+use Rattle.std.specs.Prelude.{Result, Ok}
+use Rattle.refusals.specs.declared.refusal.Refusal.{Refusal}
+use Rattle.refusals.specs.Answered.{Answer, done, refused, answered}
 use Rattle.search.specs.Search.{search_refusal, Finding, declined, none, found, answer_of, table_of, Searches}
 use Rattle.search.proofs.Refused.{taken, refusal_below}
 use Rattle.search.proofs.Found.{at_front}
 
 module _ {k : ℕ} {D : Design} where
   -- ---- 16
-  none_then : (F : Finding k D) → k < 16 → answer_of F ≡ Refused 16 → (k ≡ 0) × NoneWorks D
+  none_then : (F : Finding k D) → k < 16 → answer_of F ≡ refused 16 → (k ≡ 0) × NoneWorks D
   none_then (declined n) l e = let z : k ≡ 16 = cc in absurd (omega arith)
   none_then (none z w) l e = (z, w)
   none_then (found z cs few right works) l e = let c : ◌≡◌ {A = ℕ} 0 1 = cc in absurd (omega arith)
 
   -- a converter that works keeps every rule, so none is failed
-  then_none : (F : Finding k D) → k ≡ 0 → NoneWorks D → answer_of F ≡ Refused 16
+  then_none : (F : Finding k D) → k ≡ 0 → NoneWorks D → answer_of F ≡ refused 16
   then_none (declined n) z w = absurd (n z)
   then_none (none z w) _ _ = refl
   then_none (found z cs few right works) _ w = let f = w (converter cs) works.matched in absurd (f.2 (works.keeps f.0 f.1))
@@ -43,7 +44,7 @@ pub record FoundIn (ds table : List ℕ) (n : ℕ) : Type 0 where
   pub right : converter_refusal (take (record_bytes * n) table) ≡ 0
   pub works : Works (design ds) (converter (take (record_bytes * n) table))
 
-found_then : (ds table : List ℕ) (work : ℕ) (F : Finding (search_refusal ds (length table) work) (design ds)) (n : ℕ) → Found n ≡ answer_of F → FoundIn ds (table_of F table) n
+found_then : (ds table : List ℕ) (work : ℕ) (F : Finding (search_refusal ds (length table) work) (design ds)) (n : ℕ) → done n ≡ answer_of F → FoundIn ds (table_of F table) n
 found_then ds table work (declined x) n e = let c : ◌≡◌ {A = ℕ} 0 1 = cc in absurd (omega arith)
 found_then ds table work (none z w) n e = let c : ◌≡◌ {A = ℕ} 0 1 = cc in absurd (omega arith)
 found_then ds table work (found z cs few right works) n e =
@@ -60,15 +61,15 @@ found_then ds table work (found z cs few right works) n e =
       works = subst⁻¹ (λ (l : List ℕ). Works (design ds) (converter l)) same works;
     }
 
-module _ (ds table work : List ℕ) (a : Outcome) (table' work' : List ℕ) (S : Searches ds table work a table' work') where
+module _ (ds table work : List ℕ) (a : Result ℕ Refusal) (table' work' : List ℕ) (S : Searches ds table work a table' work') where
   -- 16 exactly when the other tests pass and every matched converter fails some rule
-  pub none_exactly : (a ≡ Refused 16) ↔ ((search_refusal ds (length table) (length work) ≡ 0) × NoneWorks (design ds))
+  pub none_exactly : (answered a ≡ refused 16) ↔ ((search_refusal ds (length table) (length work) ≡ 0) × NoneWorks (design ds))
   none_exactly = (
     λ e. none_then S.finding (refusal_below ds (length table) (length work)) (sym S.answers ∙ e),
     λ p. S.answers ∙ then_none S.finding p.0 p.1,
   )
 
-  pub found_in : (n : ℕ) → a ≡ Found n → FoundIn ds table' n
+  pub found_in : (n : ℕ) → a ≡ Ok n → FoundIn ds table' n
   found_in n e =
       subst⁻¹ (λ (t : List ℕ). FoundIn ds t n) S.leaves_table
-      (found_then ds table (length work) S.finding n (sym e ∙ S.answers))
+      (found_then ds table (length work) S.finding n (sym (ap answered e) ∙ S.answers))
