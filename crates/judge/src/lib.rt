@@ -2,54 +2,42 @@
 #![tactic(auto)]
 
 ghost use Rattle.std.specs.Prelude.{◌≡◌};
+ghost use Rattle.refusals.specs.Answered.{refusal_of};
 ghost use Rattle.judge.specs.Judge.{judge_refusal, Judges};
 
 pub mod quick;
 mod rules;
 
 use layout::{designs, sizes};
+use refusals::refusal::Refusal;
 use refusals::{converters, design_tests};
 
-// Yes, or a refusal's number.
-#[derive(Clone, Copy)]
-pub enum Verdict {
-    Yes,
-    Refused(u8),
-}
-
-// The first of 1 to 8 and 10 to 13 that holds, with so much room lent for the cells and so many numbers for the waits, and 0 where none does.
-fn judge_refusal(design: &[u8], converter: &[u8], room: usize, listed: usize) -> u8
-    ensures { result ≡ judge_refusal design.now converter.now room listed }
+// The first of 1 to 8 and 10 to 13 that holds, with so much room lent for the cells and so many numbers for the waits.
+fn judge_refusal(design: &[u8], converter: &[u8], room: usize, listed: usize) -> Result<(), Refusal>
+    ensures { refusal_of result ≡ judge_refusal design.now converter.now room listed }
 {
-    let of_design = design_tests::design_refusal(design);
-    if of_design != 0 {
-        return of_design;
-    }
-    let of_converter = converters::converter_refusal(converter);
-    if of_converter != 0 {
-        return of_converter;
-    }
+    design_tests::design_refusal(design)?;
+    converters::converter_refusal(converter)?;
     if listed < designs::rule_count(design) {
-        return 12;
+        return Err(Refusal::Room);
     }
     if room < sizes::CELL_BYTES * converters::count(converter) {
-        return 13;
+        return Err(Refusal::Work);
     }
-    0
+    Ok(())
 }
 
 // Whether the converter works for the design, and after a yes how long each rule waits. The cells that were used are cleared last.
-pub fn judge(design: &[u8], converter: &[u8], work: &mut [u8], waits: &mut [u32]) -> Verdict
+pub fn judge(
+    design: &[u8],
+    converter: &[u8],
+    work: &mut [u8],
+    waits: &mut [u32],
+) -> Result<(), Refusal>
     ensures { Judges design.now converter.now work.old waits.old result work.new waits.new }
 {
-    let refusal = judge_refusal(design, converter, work.len(), waits.len());
-    if refusal != 0 {
-        return Verdict::Refused(refusal);
-    }
+    judge_refusal(design, converter, work.len(), waits.len())?;
     let found = rules::verdict(design, converter, work, waits);
     work[..sizes::CELL_BYTES * converters::count(converter)].fill(0);
-    if found != 0 {
-        return Verdict::Refused(found);
-    }
-    Verdict::Yes
+    found
 }
