@@ -13,7 +13,7 @@ use Rattle.std.specs.Prelude.{Err}
 use Rattle.judge.specs.Judge.{Judges}
 use Rattle.judge.proofs.Judging.{Passes, passes, cleared, judge_refused, judge_found}
 use Rattle.judge.proofs.judge.Goals as goal
-use Rattle.judge.proofs.judge.Goals.{After-fill, Before-verdict-found}
+use Rattle.judge.proofs.judge.Goals.{After-fill, In_ok-judge_refusal}
 
 pub returns-in_err-judge_refusal : goal.returns-in_err-judge_refusal
 returns-in_err-judge_refusal c =
@@ -23,20 +23,20 @@ returns-in_err-judge_refusal c =
     subst⁻¹ (λ r. Judges a.design.now a.converter.now a.work.now a.waits.now r a.work.now a.waits.now) same (judge_refused a.design.now a.converter.now a.work.now a.waits.now e c.in_err-judge_refusal.ensures)
 
 -- nothing is refused
-passed : (c : Before-verdict-found) → let a = c.args in Passes a.design.now a.converter.now (length a.work.now) (length a.waits.now)
+passed : (c : In_ok-judge_refusal) → let a = c.args in Passes a.design.now a.converter.now (length a.work.now) (length a.waits.now)
 passed c =
     let a = c.args in
     passes a.design.now a.converter.now (length a.work.now) (length a.waits.now) (sym c.in_ok-judge_refusal.ensures)
 
 pub verdict-found-requires : goal.verdict-found-requires
-verdict-found-requires c = let p = passed (goal.at.verdict-found-requires c).Before-verdict-found in (p.designed, (p.converted, p.roomy), p.all_listed)
+verdict-found-requires c = let p = passed (goal.at.verdict-found-requires c).In_ok-judge_refusal in (p.designed, (p.converted, p.roomy), p.all_listed)
 
 pub slice_bounds-fill-end : goal.slice_bounds-fill-end
-slice_bounds-fill-end c = omega (arith, c.count.ensures, (passed (goal.at.slice_bounds-fill-end c).Before-verdict-found).roomy, c.verdict-found.auto.work)
+slice_bounds-fill-end c = omega (arith, c.count.ensures, (passed (goal.at.slice_bounds-fill-end c).In_ok-judge_refusal).roomy, c.verdict-found.auto.work)
 
 pub slice_bounds-fill-end-2 : goal.slice_bounds-fill-end-2
 slice_bounds-fill-end-2 c =
-    sym (length-take-le (cell_bytes * c.count.result) c.verdict-found.new.work (omega (arith, c.count.ensures, (passed (goal.at.slice_bounds-fill-end-2 c).Before-verdict-found).roomy, c.verdict-found.auto.work)))
+    sym (length-take-le (cell_bytes * c.count.result) c.verdict-found.new.work (omega (arith, c.count.ensures, (passed (goal.at.slice_bounds-fill-end-2 c).In_ok-judge_refusal).roomy, c.verdict-found.auto.work)))
 
 -- the cells that were used are cleared
 zeros : (c : After-fill) → c.fill.new.self ++ drop (cell_bytes * c.count.result) c.verdict-found.new.work ≡ put c.verdict-found.new.work 0 (replicate (cell_bytes * records c.args.converter.now) 0)

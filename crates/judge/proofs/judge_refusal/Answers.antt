@@ -31,7 +31,7 @@ pub returns-in_err-converter_refusal : goal.returns-in_err-converter_refusal
 returns-in_err-converter_refusal c =
     let a = c.args in
     let e = c.in_err-converter_refusal.field-0.0 in
-    let same : c.from_residual-2.result ≡ Err e = search rules in
+    let same : c.from_residual-in_err-converter_refusal.result ≡ Err e = search rules in
     let number = c.in_err-converter_refusal.ensures in
     ap refusal_of same ∙ number
     ∙ sym (converter_refused a.design.now a.converter.now a.room a.listed (sym c.in_ok-design_refusal.ensures) (λ z. let n = number_some e in omega (arith, n, number, z)))
