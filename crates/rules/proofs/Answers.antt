@@ -19,7 +19,11 @@ use Rattle.refusals.proofs.ByRefusal.{where_none, where_some}
 use Rattle.typed.specs.Grammar.{Typed, Lines}
 use Rattle.typed.specs.Records.{formula_for, sizes, all_records, rules_from, forms_to, rule_blocks}
 use Rattle.typed.proofs.Sizes.{length_all_records, length_rules, length_forms_to}
-use Rattle.rules.specs.declared.Answer.TheVariants.{Rules, Refused}
+use Rattle.std.specs.Prelude.{Ok, Err}
+use Rattle.refusals.specs.declared.refusal.Refusal.{Refusal}
+use Rattle.refusals.specs.declared.refusal.Refusal.TheVariants as refusals
+use Rattle.refusals.specs.Answered.{number, done, refused}
+use Rattle.refusals.proofs.Answered.{number_some}
 use Rattle.rules.specs.declared.parts.Grade.TheVariants as grade
 use Rattle.rules.specs.declared.lines.Text.{Text}
 use Rattle.rules.specs.Grades.{allowed}
@@ -28,7 +32,7 @@ use Rattle.rules.specs.Lining.{ReadAs, text_refusal}
 use Rattle.rules.proofs.Universal.{all_universal}
 
 -- 19: no rules are a reading of the text
-pub unread : (text before : List ℕ) → ((fs : List Typed) → Lines text fs → ⊥) → Ruling text before (Refused 19) before
+pub unread : (text before : List ℕ) → ((fs : List Typed) → Lines text fs → ⊥) → Ruling text before (Err refusals.Text) before
 unfolding rules_refusal first_failing
 unread text before none = record { reading = as_nothing none; answers = refl; leaves = refl }
 
@@ -67,19 +71,19 @@ module _ (text before : List ℕ) {t : Text} {rs us : List ℕ} (x : ReadAs text
       (ap₂ (λ (m n : ℕ). leb m most_formulas && leb n most_rules) h.counted h.ruled)
 
   -- a refusal leaves all as it was
-  pub declined : (k : ℕ) → k ≡ text_refusal t (length before) → (k ≡ 0 → ⊥) → Ruling text before (Refused k) before
-  declined k e n =
+  pub declined : (d : Refusal) → number d ≡ text_refusal t (length before) → Ruling text before (Err d) before
+  declined d e =
       let refusal = rules_refusal reading (length before) in
-      let some : refusal ≡ 0 → ⊥ = λ z. n (e ∙ same_refusal ∙ z) in
+      let some : refusal ≡ 0 → ⊥ = λ z. let n = number_some d in let m = e ∙ same_refusal ∙ z in omega (arith, n, m) in
       record {
         reading = reading;
-        answers = ap Refused (e ∙ same_refusal) ∙ sym (where_some refusal (Rules (length x.rules)) (Refused refusal) some);
+        answers = ap refused (e ∙ same_refusal) ∙ sym (where_some refusal (done (length x.rules)) (refused refusal) some);
         leaves = sym (where_some refusal (put before 0 (rule_blocks (formulas_for x.rules))) before some);
       }
 
   -- the two blocks, one behind the other
   pub written : (after : List ℕ) → text_refusal t (length before) ≡ 0
-      → after ≡ put (put before 0 (sealed 3 t.count 0 (part rs 0 (4 * t.count)))) block_bytes (sealed 4 t.rules 0 (part us 0 t.rules)) → Ruling text before (Rules t.rules) after
+      → after ≡ put (put before 0 (sealed 3 t.count 0 (part rs 0 (4 * t.count)))) block_bytes (sealed 4 t.rules 0 (part us 0 t.rules)) → Ruling text before (Ok t.rules) after
   unfolding rule_blocks
   written after ok e =
       let h = x.holds in
@@ -97,7 +101,7 @@ module _ (text before : List ℕ) {t : Text} {rs us : List ℕ} (x : ReadAs text
       let long_numbers : length numbers ≡ 512 = length_sealed 4 (length rules) 0 (rules_from 0 rules) (omega (arith, length_rules 0 rules, many, p.few_rules)) in
       record {
         reading = reading;
-        answers = ap Rules h.ruled ∙ sym (where_none refusal (Rules (length x.rules)) (Refused refusal) none);
+        answers = ap done h.ruled ∙ sym (where_none refusal (done (length x.rules)) (refused refusal) none);
         leaves =
             e
             ∙ ap₂ (λ (xs ys : List ℕ). put (put before 0 xs) block_bytes ys) (ap₂ (λ (n : ℕ) (zs : List ℕ). sealed 3 n 0 zs) h.counted records_are)

@@ -33,8 +33,9 @@ use Rattle.typed.proofs.Sizes.{length_all_records, length_rules, length_forms_to
 use Rattle.typed.proofs.Unique.{unique}
 use Rattle.typed.proofs.Accepted.{SidesPass}
 use Rattle.typed.proofs.Ruled.{ruled, ruled_accepted}
-use Rattle.rules.specs.declared.Answer.{Answer}
-use Rattle.rules.specs.declared.Answer.TheVariants.{Rules, Refused}
+use Rattle.std.specs.Prelude.{Result, Ok}
+use Rattle.refusals.specs.declared.refusal.Refusal.{Refusal}
+use Rattle.refusals.specs.Answered.{Answer, done, refused, answered}
 use Rattle.rules.specs.Rules.{Reading, as_rules, as_nothing, is_read, rules_of, formulas_for, few, rules_refusal, rules_answer, Ruling}
 
 -- ---- a text of the grammar
@@ -52,50 +53,50 @@ tests read fs room =
     ∷ record { number = 12; passes = leb (2 * block_bytes) room }
     ∷ []
 
-module _ (text before : List ℕ) (a : Answer) (after : List ℕ) (p : Ruling text before a after) where
+module _ (text before : List ℕ) (a : Result ℕ Refusal) (after : List ℕ) (p : Ruling text before a after) where
   abbrev refusal : ℕ
   refusal = rules_refusal p.reading (length before)
 
   -- Every text of the grammar is read unless it is refused: its rules decide the answer and the bytes.
-  pub decided : (fs : List Typed) (l : Lines text fs) → (a ≡ rules_answer (as_rules fs l) (length before))
+  pub decided : (fs : List Typed) (l : Lines text fs) → (answered a ≡ rules_answer (as_rules fs l) (length before))
       × (after ≡ left_by (rules_refusal (as_rules fs l) (length before)) before (rule_blocks (formulas_for fs)))
   unfolding rules_refusal
   decided fs l =
       let w = read_as p.reading l in
       let e : first_failing (tests (is_read p.reading) (rules_of p.reading) (length before)) ≡ first_failing (tests true fs (length before)) =
       ap₂ (λ (b : Bool) (gs : List Typed). first_failing (tests b gs (length before))) w.0 w.1 in (
-        p.answers ∙ ap₂ (λ (k : ℕ) (gs : List Typed). cond (eqb k 0) (Rules (length gs)) (Refused k)) e w.1,
+        p.answers ∙ ap₂ (λ (k : ℕ) (gs : List Typed). cond (eqb k 0) (done (length gs)) (refused k)) e w.1,
         p.leaves ∙ ap₂ (λ (k : ℕ) (gs : List Typed). left_by k before (rule_blocks (formulas_for gs))) e w.1,
       )
 
-  goes_on : refusal ≡ 0 → a ≡ Rules (length (rules_of p.reading))
-  goes_on e = p.answers ∙ where_none refusal (Rules (length (rules_of p.reading))) (Refused refusal) e
+  goes_on : refusal ≡ 0 → answered a ≡ done (length (rules_of p.reading))
+  goes_on e = p.answers ∙ where_none refusal (done (length (rules_of p.reading))) (refused refusal) e
 
-  stops : (refusal ≡ 0 → ⊥) → a ≡ Refused refusal
-  stops n = p.answers ∙ where_some refusal (Rules (length (rules_of p.reading))) (Refused refusal) n
+  stops : (refusal ≡ 0 → ⊥) → answered a ≡ refused refusal
+  stops n = p.answers ∙ where_some refusal (done (length (rules_of p.reading))) (refused refusal) n
 
   -- a count: nothing is refused, and it is that of the rules
-  pub says_count : (n : ℕ) → a ≡ Rules n → (rules_refusal p.reading (length before) ≡ 0) × (n ≡ length (rules_of p.reading))
-  says_count n e = elim (ℕ_discrete refusal 0) [ yes z ↦ (z, same (sym e ∙ goes_on z)) | no m ↦ absurd (apart (sym e ∙ stops m)) ]
+  pub says_count : (n : ℕ) → a ≡ Ok n → (rules_refusal p.reading (length before) ≡ 0) × (n ≡ length (rules_of p.reading))
+  says_count n e = elim (ℕ_discrete refusal 0) [ yes z ↦ (z, same (sym (ap answered e) ∙ goes_on z)) | no m ↦ absurd (apart (sym (ap answered e) ∙ stops m)) ]
     where
-      apart : Rules n ≡ Refused refusal → ⊥
+      apart : ◌≡◌ {A = Answer ℕ} (done n) (refused refusal) → ⊥
       apart e = let z : ◌≡◌ {A = ℕ} 0 1 = cc in omega arith
 
-      same : {m k : ℕ} → Rules m ≡ Rules k → m ≡ k
+      same : {m k : ℕ} → ◌≡◌ {A = Answer ℕ} (done m) (done k) → m ≡ k
       same e = cc
 
   -- a refusal: it is the first test's that fails, and all is as it was
-  pub says_refused : (k : ℕ) → a ≡ Refused k → (rules_refusal p.reading (length before) ≡ k) × (k ≡ 0 → ⊥) × (after ≡ before)
+  pub says_refused : (k : ℕ) → answered a ≡ refused k → (rules_refusal p.reading (length before) ≡ k) × (k ≡ 0 → ⊥) × (after ≡ before)
   says_refused k e =
       elim (ℕ_discrete refusal 0) [
         | yes z ↦ absurd (apart (sym e ∙ goes_on z))
         | no m ↦ let f = same (sym (stops m) ∙ e) in (f, (λ z. m (f ∙ z)), p.leaves ∙ where_some refusal (put before 0 (rule_blocks (formulas_for (rules_of p.reading)))) before m)
       ]
     where
-      apart : Refused k ≡ Rules (length (rules_of p.reading)) → ⊥
+      apart : ◌≡◌ {A = Answer ℕ} (refused k) (done (length (rules_of p.reading))) → ⊥
       apart e = let z : ◌≡◌ {A = ℕ} 0 1 = cc in omega arith
 
-      same : Refused refusal ≡ Refused k → refusal ≡ k
+      same : ◌≡◌ {A = Answer ℕ} (refused refusal) (refused k) → refusal ≡ k
       same e = cc
 
 -- ---- 19
@@ -111,13 +112,13 @@ unfolding rules_refusal first_failing
 only_unread (as_rules gs l) room e = absurd (never_19 (all universal gs) (few gs) (leb (2 * block_bytes) room) e)
 only_unread (as_nothing n) room e = n
 
-unread_refused : {text : List ℕ} (r : Reading text) (room : ℕ) → ((fs : List Typed) → Lines text fs → ⊥) → rules_answer r room ≡ Refused 19
+unread_refused : {text : List ℕ} (r : Reading text) (room : ℕ) → ((fs : List Typed) → Lines text fs → ⊥) → rules_answer r room ≡ refused 19
 unfolding rules_refusal first_failing
 unread_refused (as_rules gs l) room n = absurd (n gs l)
 unread_refused (as_nothing m) room n = refl
 
 -- exactly where no rules are a reading of the text
-pub unread_is_19 : (text before : List ℕ) (a : Answer) (after : List ℕ) → Ruling text before a after → (a ≡ Refused 19) ↔ ((fs : List Typed) → Lines text fs → ⊥)
+pub unread_is_19 : (text before : List ℕ) (a : Result ℕ Refusal) (after : List ℕ) → Ruling text before a after → (answered a ≡ refused 19) ↔ ((fs : List Typed) → Lines text fs → ⊥)
 unread_is_19 text before a after p =
     ((λ e. only_unread p.reading (length before) (says_refused text before a after p 19 e).0), λ n. p.answers ∙ unread_refused p.reading (length before) n)
 
@@ -126,12 +127,12 @@ lines_of : {text : List ℕ} (r : Reading text) → is_read r ≡ true → Lines
 lines_of (as_rules fs l) e = l
 lines_of (as_nothing n) e = absurd (true≢false (sym e))
 
-module _ (text before : List ℕ) (n : ℕ) (after : List ℕ) (p : Ruling text before (Rules n) after) where
+module _ (text before : List ℕ) (n : ℕ) (after : List ℕ) (p : Ruling text before (Ok n) after) where
   abbrev fs : List Typed
   fs = rules_of p.reading
 
   nothing_refused : rules_refusal p.reading (length before) ≡ 0
-  nothing_refused = (says_count text before (Rules n) after p n refl).0
+  nothing_refused = (says_count text before (Ok n) after p n refl).0
 
   -- what has passed
   record Passed : Type 0 where
@@ -160,7 +161,7 @@ module _ (text before : List ℕ) (n : ℕ) (after : List ℕ) (p : Ruling text 
 
   -- A text that is read is of the grammar, one rule a line, and as many are counted.
   pub of_the_grammar : Lines text (rules_of p.reading) × (n ≡ length (rules_of p.reading))
-  of_the_grammar = (lines_of p.reading passes.read, (says_count text before (Rules n) after p n refl).1)
+  of_the_grammar = (lines_of p.reading passes.read, (says_count text before (Ok n) after p n refl).1)
 
   pub few_lines : n ≤ most_rules
   few_lines = omega (arith, of_the_grammar.1, passes.few_rules)

@@ -1,13 +1,13 @@
 -- Specification, "Rules as people type them": the call. Which refusal it answers, every byte of the blocks, and what each lent byte is after.
-use Rattle.std.specs.Prelude.{◌≡◌, Bool, true, false, ◌&&◌, cond, List, [], ◌∷◌, map, ℕ, ◌*◌, eqb, leb, length}
+use Rattle.std.specs.Prelude.{◌≡◌, Bool, true, false, ◌&&◌, cond, List, [], ◌∷◌, map, ℕ, ◌*◌, eqb, leb, length, Result}
 use Rattle.model.specs.Actl.{Actl}
 use Rattle.model.specs.Judged.{all}
 use Rattle.layout.specs.Sizes.{block_bytes, most_formulas, most_rules}
 use Rattle.refusals.specs.Refusals.{Test, first_failing, left_by}
 use Rattle.typed.specs.Grammar.{Typed, Lines}
 use Rattle.typed.specs.Records.{universal, formula_for, sizes, rule_blocks}
-use Rattle.rules.specs.declared.Answer.{Answer}
-use Rattle.rules.specs.declared.Answer.TheVariants.{Rules, Refused}
+use Rattle.refusals.specs.declared.refusal.Refusal.{Refusal}
+use Rattle.refusals.specs.Answered.{Answer, done, refused, answered}
 
 -- What a text reads as: rules, of which there is one list at most (`typed/proofs/Unique`), or nothing.
 pub data Reading (text : List ℕ) : Type 0 where
@@ -43,10 +43,10 @@ unfoldable pub rules_refusal : {text : List ℕ} → Reading text → ℕ → �
 rules_refusal r room = first_failing (rules_tests r room)
 
 -- ---- what the call promises: its answer a, and the lent blocks before and after
-abbrev pub rules_answer : {text : List ℕ} → Reading text → ℕ → Answer
-rules_answer r room = cond (eqb (rules_refusal r room) 0) (Rules (length (rules_of r))) (Refused (rules_refusal r room))
+abbrev pub rules_answer : {text : List ℕ} → Reading text → ℕ → Answer ℕ
+rules_answer r room = cond (eqb (rules_refusal r room) 0) (done (length (rules_of r))) (refused (rules_refusal r room))
 
-pub record Ruling (text before : List ℕ) (a : Answer) (after : List ℕ) : Type 0 where
+pub record Ruling (text before : List ℕ) (a : Result ℕ Refusal) (after : List ℕ) : Type 0 where
   pub reading : Reading text
-  pub answers : a ≡ rules_answer reading (length before)
+  pub answers : answered a ≡ rules_answer reading (length before)
   pub leaves : after ≡ left_by (rules_refusal reading (length before)) before (rule_blocks (formulas_for (rules_of reading)))

@@ -12,28 +12,19 @@ mod records;
 
 use layout::{blocks, sizes};
 use lines::Outcome;
+use refusals::refusal::Refusal;
 
-// The count of rules, or a refusal's number.
-#[derive(Clone, Copy)]
-pub enum Answer {
-    Rules(usize),
-    Refused(u8),
-}
-
-// The blocks of kinds 3 and 4 that are made of a text.
-pub fn rules(text: &[u8], res: &mut [u8]) -> Answer
+// The blocks of kinds 3 and 4 that are made of a text; the answer is how many rules it has.
+pub fn rules(text: &[u8], res: &mut [u8]) -> Result<usize, Refusal>
     ensures { Ruling text.now res.old result res.new }
 {
     let mut made = [0u8; records::RECORD_ROOM];
     let mut pending = [0u8; records::PENDING_ROOM];
     let mut numbers = [0u8; sizes::MOST_RULES];
     let Outcome::Read(read) = lines::read_lines(text, &mut made, &mut pending, &mut numbers) else {
-        return Answer::Refused(19);
+        return Err(Refusal::Text);
     };
-    let refusal = lines::text_refusal(read, res.len());
-    if refusal != 0 {
-        return Answer::Refused(refusal);
-    }
+    lines::text_refusal(read, res.len())?;
     let count = read.count;
     let n = read.rules;
     blocks::write(
@@ -47,5 +38,5 @@ pub fn rules(text: &[u8], res: &mut [u8]) -> Answer
         sizes::FORMULA_BYTES * count,
     );
     blocks::write(res, sizes::BLOCK_BYTES, 4, n as u8, 0, &numbers, 0, n);
-    Answer::Rules(n)
+    Ok(n)
 }

@@ -1,12 +1,14 @@
 // The lines of a text, one rule each.
 ghost use Rattle.std.specs.Prelude.{◌≡◌, ◌%◌, length};
 ghost use Rattle.layout.specs.Sizes.{most_rules};
+ghost use Rattle.refusals.specs.Answered.{refusal_of};
 ghost use Rattle.rules.specs.Making.{record_room, pending_room};
 ghost use Rattle.rules.specs.Lining.{Ruled, Lining, text_refusal};
 
 use crate::parts::Grade;
 use crate::{parts, readers};
 use layout::sizes;
+use refusals::refusal::Refusal;
 use tokens::Token;
 
 // Brackets that may be open together.
@@ -70,22 +72,22 @@ pub fn read_lines(text: &[u8], records: &mut [u8], pending: &mut [u8], rules: &m
     })
 }
 
-// The first of 20, 21 and 12 that holds of what was read, with so much room lent for the blocks, and 0 where none does.
-pub fn text_refusal(t: Text, room: usize) -> u8
-    ensures { result ≡ text_refusal t room }
+// The first of 20, 21 and 12 that holds of what was read, with so much room lent for the blocks.
+pub fn text_refusal(t: Text, room: usize) -> Result<(), Refusal>
+    ensures { refusal_of result ≡ text_refusal t room }
 {
     let grade = t.grade;
     if let Grade::Refused = grade {
-        return 20;
+        return Err(Refusal::Existential);
     }
     if sizes::MOST_FORMULAS < t.count {
-        return 21;
+        return Err(Refusal::TextSize);
     }
     if sizes::MOST_RULES < t.rules {
-        return 21;
+        return Err(Refusal::TextSize);
     }
     if room < 2 * sizes::BLOCK_BYTES {
-        return 12;
+        return Err(Refusal::Room);
     }
-    0
+    Ok(())
 }
