@@ -4,11 +4,9 @@ use Rattle.model.specs.Events.{Event}
 use Rattle.model.specs.Sides.{Side}
 use Rattle.model.specs.Runs as model
 use Rattle.layout.specs.Converters.{converter}
+use Rattle.refusals.specs.Answered.{Answer, done, refused}
 use Rattle.runner.specs.declared.Runner.{Runner}
-use Rattle.runner.specs.declared.Answer.{Answer}
-use Rattle.runner.specs.declared.Answer.TheVariants.{Done, Refused}
-use Rattle.runner.specs.declared.Ticked.{Ticked}
-use Rattle.runner.specs.Ticks.{delivered, ticked}
+use Rattle.runner.specs.Ticks.{Ticked, delivered, ticked}
 
 -- ---- calls, one after the other. The converter that they lend is part of the run's state.
 pub data Call : Type 0 where
@@ -20,7 +18,7 @@ pub record Running : Type 0 where
   pub runner : Runner
 
 pub record Called : Type 0 where
-  pub answer : Answer
+  pub answer : Answer (Unit {0})
   pub running : Running
 
 unfoldable pub called : Running → Call → Called
@@ -32,9 +30,9 @@ called R (tick_call x y z) =
 abbrev pub call_of : Call → model.Call
 call_of (tick_call x y z) = model.tick_call (x ∷ y ∷ z ∷ [])
 
-abbrev pub answer_of : Answer → model.Answer
-answer_of Done = model.done
-answer_of (Refused k) = model.refused k
+abbrev pub answer_of : Answer (Unit {0}) → model.Answer
+answer_of (done x) = model.done
+answer_of (refused k) = model.refused k
 
 abbrev pub runner_of : Runner → model.Runner
 runner_of r = record { at = r.«record»; delivered = delivered r }

@@ -1,5 +1,5 @@
 -- Specification, "The tick": one tick over the bytes of a converter. What is shown and what is delivered are lists with one event a side.
-use Rattle.std.specs.Prelude.{◌≡◌, Bool, cond, List, [], ◌∷◌, ℕ, suc, ◌*◌, eqb, leb, ltb, pos, negsuc, get_or}
+use Rattle.std.specs.Prelude.{◌≡◌, Bool, cond, List, [], ◌∷◌, ℕ, suc, ◌*◌, eqb, leb, ltb, pos, negsuc, get_or, Result, Ok, Err}
 use Rattle.std.proofs.Math.Option.{Option, none, some}
 use Rattle.model.specs.Events.{Event, tick}
 use Rattle.model.specs.Converters.{Edge, node, side_events}
@@ -7,15 +7,20 @@ use Rattle.model.specs.Judged.{all}
 use Rattle.model.specs.Runs.{first_fit}
 use Rattle.layout.specs.Sizes.{last_event, record_bytes}
 use Rattle.layout.specs.Converters.{records, converter}
+use Rattle.refusals.specs.declared.refusal.Refusal.{Refusal}
+use Rattle.refusals.specs.Answered as by_number
+use Rattle.refusals.specs.Answered.{Answer, done, number, answered}
 use Rattle.refusals.specs.Refusals.{Test, first_failing, size_right, record_right}
 use Rattle.runner.specs.declared.Runner.{Runner}
-use Rattle.runner.specs.declared.Answer.{Answer}
-use Rattle.runner.specs.declared.Answer.TheVariants.{Done, Refused}
-use Rattle.runner.specs.declared.Ticked.{Ticked}
 
 -- the events last delivered
 abbrev pub delivered : Runner → List Event
 delivered r = r.first ∷ r.second ∷ r.third ∷ []
+
+-- the answer, and the runner as the tick leaves it
+pub record Ticked : Type 0 where
+  pub answer : Answer (Unit {0})
+  pub runner : Runner
 
 -- ---- refusals
 -- a shown event: not above 0 and not below -63 (`negsuc n` is -(n + 1))
@@ -37,7 +42,7 @@ tick_refusal cs c xs = first_failing (tick_tests cs c xs)
 
 -- a refusal changes nothing
 abbrev pub refused : Runner → ℕ → Ticked
-refused r k = record { answer = Refused k; runner = r }
+refused r k = record { answer = by_number.refused k; runner = r }
 
 -- ---- the transition that is taken
 -- its next record and its side events become the runner's values
@@ -47,7 +52,7 @@ moved_by e = record { «record» = e.next; first = get_or (side_events e) 0 tick
 -- 17 where none fits
 unfoldable pub taken : Runner → Option Edge → Ticked
 taken r none = refused r 17
-taken r (some e) = record { answer = Done; runner = moved_by e }
+taken r (some e) = record { answer = done tt; runner = moved_by e }
 
 unfoldable pub ticked : List ℕ → Runner → List Event → Ticked
 ticked cs r xs =
@@ -55,7 +60,12 @@ ticked cs r xs =
     (taken r (first_fit xs (node (converter cs) r.«record»).edges))
     (refused r (tick_refusal cs r.«record» xs))
 
+-- what a tick from runner r is that answers with the next runner
+abbrev pub ticked_as : Runner → Result Runner Refusal → Ticked
+ticked_as r (Ok r') = record { answer = done tt; runner = r' }
+ticked_as r (Err e) = refused r (number e)
+
 -- what a tick promises: its answer a, and the runner r' that it leaves
-pub record Ticks (cs : List ℕ) (r : Runner) (xs : List Event) (a : Answer) (r' : Runner) : Type 0 where
-  pub answers : a ≡ (ticked cs r xs).answer
+pub record Ticks (cs : List ℕ) (r : Runner) (xs : List Event) (a : Result (Unit {0}) Refusal) (r' : Runner) : Type 0 where
+  pub answers : answered a ≡ (ticked cs r xs).answer
   pub leaves : r' ≡ (ticked cs r xs).runner

@@ -9,33 +9,21 @@ ghost use Rattle.model.specs.Runs.{fits, all_fit, first_fit};
 ghost use Rattle.layout.specs.Sizes.{record_bytes};
 ghost use Rattle.layout.specs.Converters.{records, converter};
 ghost use Rattle.refusals.specs.Refusals.{record_right};
-ghost use Rattle.runner.specs.Ticks.{can_show, tick_refusal, taken, ticked, Ticks};
+ghost use Rattle.refusals.specs.Answered.{refusal_of};
+ghost use Rattle.runner.specs.Ticks.{can_show, tick_refusal, taken, ticked, ticked_as, Ticks};
 
 use layout::{events, sizes};
 use refusals::converters;
+use refusals::refusal::Refusal;
 
 // What a host lends: the number of a record, and the events last delivered to the sides.
 #[repr(C)]
-#[derive(Clone, Copy)]
+#[derive(Clone, Copy, PartialEq, Eq, Debug)]
 pub struct Runner {
     pub record: u16,
     pub first: i8,
     pub second: i8,
     pub third: i8,
-}
-
-// "done", or a refusal's number.
-#[derive(Clone, Copy)]
-pub enum Answer {
-    Done,
-    Refused(u8),
-}
-
-// The answer, and the runner as the tick leaves it.
-#[derive(Clone, Copy)]
-pub struct Ticked {
-    pub answer: Answer,
-    pub runner: Runner,
 }
 
 // ---- what fits
@@ -74,30 +62,30 @@ fn fits_events(shown: [i8; sizes::SIDES], events: [i8; sizes::SIDES]) -> bool
 
 // ---- the tick
 
-// The number of the first test that fails, 0 where all pass.
-fn tick_refusal(s: &[u8], c: usize, shown: [i8; sizes::SIDES]) -> u8
-    ensures { result ≡ tick_refusal s.now c shown }
+// The refusal of the first test that fails.
+fn tick_refusal(s: &[u8], c: usize, shown: [i8; sizes::SIDES]) -> Result<(), Refusal>
+    ensures { refusal_of result ≡ tick_refusal s.now c shown }
 {
     if !converters::size_right(s) {
-        return 10;
+        return Err(Refusal::ConverterSize);
     }
     let n = converters::count(s);
     if n <= c {
-        return 17;
+        return Err(Refusal::NoStep);
     }
     if !converters::record_right(s, n, sizes::RECORD_BYTES * c) {
-        return 11;
+        return Err(Refusal::ConverterRecord);
     }
     if !can_show_all(shown) {
-        return 17;
+        return Err(Refusal::NoStep);
     }
-    0
+    Ok(())
 }
 
 // The first transition of record c that fits is taken, where c is a right record.
-fn take_first(s: &[u8], c: usize, runner: Runner, shown: [i8; sizes::SIDES]) -> Ticked
+fn take_first(s: &[u8], c: usize, runner: Runner, shown: [i8; sizes::SIDES]) -> Result<Runner, Refusal>
     requires { (c < records s.now) × (record_right s.now (records s.now) (record_bytes * c) ≡ true) }
-    ensures { result ≡ taken runner (first_fit shown (node (converter s.now) c).edges) }
+    ensures { ticked_as runner result ≡ taken runner (first_fit shown (node (converter s.now) c).edges) }
 {
     // None of the first k transitions fits.
     for k in 0..converters::edge_count(s, c) {
@@ -106,44 +94,31 @@ fn take_first(s: &[u8], c: usize, runner: Runner, shown: [i8; sizes::SIDES]) -> 
         let events = events::duals(t.events);
         if fits_events(shown, events) {
             let [first, second, third] = events;
-            return Ticked {
-                answer: Answer::Done,
-                runner: Runner {
-                    record: t.next,
-                    first,
-                    second,
-                    third,
-                },
-            };
+            return Ok(Runner {
+                record: t.next,
+                first,
+                second,
+                third,
+            });
         }
     }
-    Ticked {
-        answer: Answer::Refused(17),
-        runner,
-    }
+    Err(Refusal::NoStep)
 }
 
 // A tick with the runner by value.
-pub fn step(converter: &[u8], runner: Runner, first: i8, second: i8, third: i8) -> Ticked
-    ensures { result ≡ ticked converter.now runner (first ∷ second ∷ third ∷ []) }
+pub fn step(converter: &[u8], runner: Runner, first: i8, second: i8, third: i8) -> Result<Runner, Refusal>
+    ensures { ticked_as runner result ≡ ticked converter.now runner (first ∷ second ∷ third ∷ []) }
 {
     let c = usize::from(runner.record);
     let shown = [first, second, third];
-    let refusal = tick_refusal(converter, c, shown);
-    if refusal != 0 {
-        return Ticked {
-            answer: Answer::Refused(refusal),
-            runner,
-        };
-    }
+    tick_refusal(converter, c, shown)?;
     take_first(converter, c, runner, shown)
 }
 
-// A tick with the runner lent.
-pub fn tick(converter: &[u8], runner: &mut Runner, first: i8, second: i8, third: i8) -> Answer
+// A tick with the runner lent. A refusal leaves it as it was.
+pub fn tick(converter: &[u8], runner: &mut Runner, first: i8, second: i8, third: i8) -> Result<(), Refusal>
     ensures { Ticks converter.now runner.old (first ∷ second ∷ third ∷ []) result runner.new }
 {
-    let t = step(converter, *runner, first, second, third);
-    *runner = t.runner;
-    t.answer
+    *runner = step(converter, *runner, first, second, third)?;
+    Ok(())
 }
