@@ -13,10 +13,10 @@ use Rattle.model.specs.Judged.{all}
 use Rattle.model.specs.Runs.{first_fit}
 use Rattle.layout.specs.Sizes.{record_bytes}
 use Rattle.layout.specs.Converters.{records, converter}
+use Rattle.refusals.specs.Answered as by_number
 use Rattle.refusals.specs.Refusals.{size_right, record_right}
 use Rattle.refusals.proofs.Passing.{passed}
 use Rattle.runner.specs.declared.Runner.{Runner}
-use Rattle.runner.specs.declared.Answer.TheVariants.{Refused}
 use Rattle.runner.specs.Ticks.{can_show, tick_refusal, refused, taken, ticked}
 
 -- what the tests of a tick at record c ask
@@ -46,15 +46,15 @@ module _ (cs : List ℕ) (r : Runner) (xs : List Event) where
 
 -- ---- a refusal changes nothing
 module _ (r : Runner) where
-  taken_unchanged : (o : Option Edge) (k : ℕ) → (taken r o).answer ≡ Refused k → (taken r o).runner ≡ r
+  taken_unchanged : (o : Option Edge) (k : ℕ) → (taken r o).answer ≡ by_number.refused k → (taken r o).runner ≡ r
   unfolding taken
   taken_unchanged none k e = refl
   taken_unchanged (some x) k e = let z : ◌≡◌ {A = ℕ} 0 1 = cc in absurd (omega arith)
 
-  by_test : (b : Bool) (n k : ℕ) (o : Option Edge) → (cond b (taken r o) (refused r n)).answer ≡ Refused k → (cond b (taken r o) (refused r n)).runner ≡ r
+  by_test : (b : Bool) (n k : ℕ) (o : Option Edge) → (cond b (taken r o) (refused r n)).answer ≡ by_number.refused k → (cond b (taken r o) (refused r n)).runner ≡ r
   by_test true n k o e = taken_unchanged o k e
   by_test false n k o e = refl
 
-  pub refused_unchanged : (cs : List ℕ) (xs : List Event) (k : ℕ) → (ticked cs r xs).answer ≡ Refused k → (ticked cs r xs).runner ≡ r
+  pub refused_unchanged : (cs : List ℕ) (xs : List Event) (k : ℕ) → (ticked cs r xs).answer ≡ by_number.refused k → (ticked cs r xs).runner ≡ r
   unfolding ticked
   refused_unchanged cs xs k e = by_test (eqb (tick_refusal cs r.«record» xs) 0) (tick_refusal cs r.«record» xs) k (first_fit xs (node (converter cs) r.«record»).edges) e

@@ -6,6 +6,7 @@ use Prim.Native.Nat.{ℕ, ◌*◌, ◌<◌}
 use native.Mathlib.Omega.{arith}
 use lib.ListN.{take}
 use lib.Dec.{lit<}
+use Rattle.std.specs.Prelude.{Ok}
 use Rattle.model.specs.Events.{Event}
 use Rattle.model.specs.Sides.{Side}
 use Rattle.model.specs.Joined.{zeros}
@@ -17,18 +18,15 @@ use Rattle.model.proofs.Runs as model_runs
 use Rattle.layout.specs.Sizes.{record_bytes}
 use Rattle.layout.specs.Designs.{design}
 use Rattle.layout.specs.Converters.{records, converter}
+use Rattle.refusals.specs.Answered.{Answer, done, refused}
 use Rattle.refusals.specs.Refusals.{design_refusal, records_right, converter_refusal}
 use Rattle.refusals.proofs.Accepted.{accepted, converter_length}
 use Rattle.refusals.proofs.Passing.{passed}
 use Rattle.refusals.proofs.WellFormed.{well_formed}
-use Rattle.search.specs.declared.Outcome.TheVariants.{Found}
 use Rattle.search.specs.Search.{Searches}
 use Rattle.search.proofs.Answers.{found_in}
 use Rattle.runner.specs.declared.Runner.{Runner}
-use Rattle.runner.specs.declared.Answer.{Answer}
-use Rattle.runner.specs.declared.Answer.TheVariants.{Done, Refused}
-use Rattle.runner.specs.declared.Ticked.{Ticked}
-use Rattle.runner.specs.Ticks.{delivered, ticked}
+use Rattle.runner.specs.Ticks.{Ticked, delivered, ticked}
 use Rattle.runner.specs.Runs.{Call, tick_call, Running, called, call_of, answer_of, runner_of, ticked_of, running_of, called_of, RunRight}
 use Rattle.runner.proofs.InModel.{in_model}
 
@@ -73,25 +71,25 @@ module _ (d : List ℕ) (right : design_refusal d ≡ 0) where
       every_run (record { converter = cs; runner = record { «record» = 0; first = x; second = y; third = z } }) ok m (zeros (design d).sides) (record { there = m.some_node; names = m.starts }) calls
 
 -- The same of what a search found, by its promise alone: the first n records of the table that it leaves, where it answers n.
-pub every_run_of_found : (d table work table' work' : List ℕ) (n : ℕ) → Searches d table work (Found n) table' work' → (x y z : Event) (calls : List Call)
+pub every_run_of_found : (d table work table' work' : List ℕ) (n : ℕ) → Searches d table work (Ok n) table' work' → (x y z : Event) (calls : List Call)
     → RunRight (design d).sides (record { converter = take (record_bytes * n) table'; runner = record { «record» = 0; first = x; second = y; third = z } }) (zeros (design d).sides) calls
 every_run_of_found d table work table' work' n S x y z calls =
-    let f = found_in d table work (Found n) table' work' S n refl in
+    let f = found_in d table work (Ok n) table' work' S n refl in
     every_run_from_start d f.accepted (take (record_bytes * n) table') f.right f.works.matched x y z calls
 
 -- ---- one tick
 -- of a tick that was done: the sides, in the states ss, showed xs
 pub record TickDone (Ss : List Side) (cs : List ℕ) (ss : List ℕ) (xs : List Event) (t : Ticked) : Type 0 where
-  pub answered : t.answer ≡ Done
+  pub answered : t.answer ≡ done tt
   pub delivers : AllDelivered Ss ss xs (delivered t.runner)
   -- the next record is there and names the states to which the delivered events lead
   pub there : t.runner.«record» < records cs
   pub names : (node (converter cs) t.runner.«record»).names ≡ moved Ss ss (delivered t.runner)
 
 -- an answer that is the model's "done" is "done"
-done_answer : (a : Answer) → answer_of a ≡ model.done → a ≡ Done
-done_answer Done e = refl
-done_answer (Refused k) e = let z : ◌≡◌ {A = ℕ} 0 1 = cc in absurd (omega arith)
+done_answer : (a : Answer (Unit {0})) → answer_of a ≡ model.done → a ≡ done tt
+done_answer (done tt) e = refl
+done_answer (refused k) e = let z : ◌≡◌ {A = ℕ} 0 1 = cc in absurd (omega arith)
 
 -- Over any matched converter that isn't refused, from any record that is there and names the states of the plain sides: 17 never comes where each side shows
 -- what its table allows.

@@ -1,12 +1,14 @@
 -- Shown events by their sign: what the tests `x <= 0`, `x == 0` and `x < 0` say of what a side can show, and of what fits.
-use mathlib.Core.Path.{◌≡◌, refl}
+use mathlib.Core.Path.{◌≡◌, refl, sym, ◌∙◌}
 use mathlib.Core.Bool.{true, false, true≢false}
-use Prim.Native.Nat.{zero, suc}
+use Prim.Native.Nat.{ℕ, zero, suc, ◌-◌}
+use native.Mathlib.Decide.{ℕ_discrete}
 use native.Mathlib.Omega.{arith}
-use borrow.Author.Tests.{ltb-true, leb-true, leb-false, ne_eqb}
-use lib.Dec.{leb-zero}
+use borrow.Author.Tests.{ltb-true, leb-true, leb-false, eq-eqb, ne_eqb}
+use lib.Dec.{leb-zero, eqb}
 use lib.IntN.{pos, negsuc}
 use lib.Signed.{lt_z, le_z}
+use Rattle.std.proofs.Common.{w8, SFits, of_z}
 use Rattle.model.specs.Events.{Event, same_event}
 use Rattle.model.specs.Runs.{fits}
 use Rattle.layout.specs.Tests.{in_range}
@@ -30,6 +32,21 @@ pub fits_zero : (e : Event) → le_z (pos 0) e ≡ fits (pos 0) e
 unfolding fits
 fits_zero (pos n) = leb-zero n
 fits_zero (negsuc n) = refl
+
+-- two tests of numbers that are equal for the same reason
+eqb_both : (a b x y : ℕ) → (a ≡ b → x ≡ y) → (x ≡ y → a ≡ b) → eqb a b ≡ eqb x y
+eqb_both a b x y f g = by (ℕ_discrete a b)
+  where
+    by : Dec (a ≡ b) → eqb a b ≡ eqb x y
+    by (yes p) = eq-eqb a b p ∙ sym (eq-eqb x y (f p))
+    by (no n) = ne_eqb a b n ∙ sym (ne_eqb x y (λ q. n (g q)))
+
+-- equal bits are equal events
+pub same_bits : (a b : Event) → SFits w8 a → SFits w8 b → eqb (of_z w8 a) (of_z w8 b) ≡ same_event a b
+same_bits (pos m) (pos n) f g = refl
+same_bits (negsuc m) (negsuc n) f g = eqb_both (256 - suc m) (256 - suc n) m n (λ p. omega (arith, f.sfits, g.sfits)) (λ p. omega arith)
+same_bits (pos m) (negsuc n) f g = ne_eqb m (256 - suc n) (λ p. omega (arith, f.sfits, g.sfits))
+same_bits (negsuc m) (pos n) f g = ne_eqb (256 - suc m) n (λ p. omega (arith, f.sfits, g.sfits))
 
 -- a sent event fits itself
 pub fits_same : (x e : Event) → lt_z x (pos 0) ≡ true → same_event x e ≡ fits x e

@@ -3,8 +3,8 @@ use mathlib.Core.Path.{sym, ap, ◌∙◌}
 use mir.Syntax.{w8}
 use mir.Val.{to_z, of_z}
 use Rattle.model.specs.Runs.{fits}
-use Rattle.layout.proofs.SignedBytes.{read_back, same_bits}
-use Rattle.runner.proofs.Shown.{fits_none, fits_zero, fits_same}
+use Rattle.layout.proofs.SignedBytes.{read_back}
+use Rattle.runner.proofs.Shown.{same_bits, fits_none, fits_zero, fits_same}
 use Rattle.runner.proofs.fits_event.Goals as goal
 
 pub returns-then-shown-eq0 : goal.returns-then-shown-eq0

@@ -1,17 +1,21 @@
 -- `step` meets its contract: what the tests say, and behind them the transition that is taken.
 use mathlib.Core.Path.{◌≡◌, sym, ap, ap₂, ◌∙◌}
 use mathlib.Core.List.{List, [], ◌∷◌}
+use native.Mathlib.Omega.{arith}
+use borrow.Author.Rules.{rules}
 use mir.Syntax.{w8}
 use mir.Val.{to_z, of_z}
+use Rattle.std.specs.Prelude.{Err}
 use Rattle.model.specs.Events.{Event}
 use Rattle.model.specs.Converters.{node}
 use Rattle.model.specs.Runs.{first_fit}
 use Rattle.layout.specs.Converters.{converter}
 use Rattle.layout.proofs.SignedBytes.{read_back}
-use Rattle.runner.specs.Ticks.{tick_refusal, refused, taken}
+use Rattle.refusals.proofs.Answered.{number_some}
+use Rattle.runner.specs.Ticks.{tick_refusal, refused, taken, ticked_as}
 use Rattle.runner.proofs.Refusals.{passes, goes_on, stays}
 use Rattle.runner.proofs.step.Goals as goal
-use Rattle.runner.proofs.step.Goals.{After-tick_refusal-refusal, Start}
+use Rattle.runner.proofs.step.Goals.{After-from-c, Start}
 
 -- what is shown
 abbrev shown : Start → List Event
@@ -26,23 +30,29 @@ read c =
     ap₂ {C = List Event} ◌∷◌ (read_back c.args.first c.ranges.first.sfits)
     (ap₂ {C = List Event} (λ x y. x ∷ y ∷ []) (read_back c.args.second c.ranges.second.sfits) (read_back c.args.third c.ranges.third.sfits))
 
--- the tests' answer
-tested : (c : After-tick_refusal-refusal) → c.tick_refusal-refusal.result ≡ tick_refusal c.args.converter.now c.args.runner.«record» (c.args.first ∷ c.args.second ∷ c.args.third ∷ [])
-tested c =
-    c.tick_refusal-refusal.ensures ∙ ap₂ (tick_refusal c.args.converter.now) c.from-c.ensures (ap₂ {C = List Event} ◌∷◌ (read_back c.args.first c.ranges.first.sfits) (ap₂ {C = List Event} (λ x y. x ∷ y ∷ []) (read_back c.args.second c.ranges.second.sfits) (read_back c.args.third c.ranges.third.sfits)))
+-- what the tests are of
+tests : (c : After-from-c) → tick_refusal c.args.converter.now c.from-c.result (again c.args.first ∷ again c.args.second ∷ again c.args.third ∷ []) ≡ tick_refusal c.args.converter.now c.args.runner.«record» (c.args.first ∷ c.args.second ∷ c.args.third ∷ [])
+tests c = ap₂ (tick_refusal c.args.converter.now) c.from-c.ensures (ap₂ {C = List Event} ◌∷◌ (read_back c.args.first c.ranges.first.sfits) (ap₂ {C = List Event} (λ x y. x ∷ y ∷ []) (read_back c.args.second c.ranges.second.sfits) (read_back c.args.third c.ranges.third.sfits)))
 
-pub returns-then-refusal-ne0 : goal.returns-then-refusal-ne0
-returns-then-refusal-ne0 c =
-    let e = tested (goal.at.returns-then-refusal-ne0 c).After-tick_refusal-refusal in
-    ap (refused c.args.runner) e ∙ sym (stays c.args.converter.now c.args.runner (shown (goal.at.returns-then-refusal-ne0 c).Start) (λ z. c.if-refusal-ne0.true (e ∙ z)))
+pub returns-in_err-tick_refusal : goal.returns-in_err-tick_refusal
+returns-in_err-tick_refusal c =
+    let a = c.args in
+    let e = c.in_err-tick_refusal.field-0.0 in
+    let same : c.from_residual.result ≡ Err e = search rules in
+    let k = c.in_err-tick_refusal.ensures ∙ tests (goal.at.returns-in_err-tick_refusal c).After-from-c in
+    ap (ticked_as a.runner) same
+    ∙ ap (refused a.runner) k
+    ∙ sym (stays a.converter.now a.runner (shown (goal.at.returns-in_err-tick_refusal c).Start) (λ z. let n = number_some e in omega (arith, n, k, z)))
 
 pub take_first-requires : goal.take_first-requires
 take_first-requires c =
-    let p = passes c.args.converter.now c.args.runner.«record» (shown (goal.at.take_first-requires c).Start) (sym (tested (goal.at.take_first-requires c).After-tick_refusal-refusal) ∙ c.if-refusal-ne0.false) in
+    let a = c.args in
+    let p = passes a.converter.now a.runner.«record» (shown (goal.at.take_first-requires c).Start) (sym (c.in_ok-tick_refusal.ensures ∙ tests (goal.at.take_first-requires c).After-from-c)) in
     rw c.from-c.ensures (p.there, p.right)
 
 pub returns : goal.returns
 returns c =
+    let a = c.args in
     c.take_first.ensures
-    ∙ ap₂ (λ r xs. taken c.args.runner (first_fit xs (node (converter c.args.converter.now) r).edges)) c.from-c.ensures (read (goal.at.returns c).Start)
-    ∙ sym (goes_on c.args.converter.now c.args.runner (shown (goal.at.returns c).Start) (sym (tested (goal.at.returns c).After-tick_refusal-refusal) ∙ c.if-refusal-ne0.false))
+    ∙ ap₂ (λ r xs. taken a.runner (first_fit xs (node (converter a.converter.now) r).edges)) c.from-c.ensures (read (goal.at.returns c).Start)
+    ∙ sym (goes_on a.converter.now a.runner (shown (goal.at.returns c).Start) (sym (c.in_ok-tick_refusal.ensures ∙ tests (goal.at.returns c).After-from-c)))

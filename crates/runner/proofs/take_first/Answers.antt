@@ -12,8 +12,8 @@ use Rattle.model.specs.Runs.{all_fit}
 use Rattle.layout.specs.Sizes.{place_count}
 use Rattle.layout.specs.Converters.{records, converter}
 use Rattle.layout.proofs.Nodes.{WellFormedNode}
+use Rattle.refusals.specs.Answered.{done}
 use Rattle.refusals.proofs.Accepted.{events_length, right_well_formed}
-use Rattle.runner.specs.declared.Answer.TheVariants.{Done}
 use Rattle.runner.specs.Ticks.{taken}
 use Rattle.runner.proofs.FirstFit.{fits_here, fits_later, fits_nowhere}
 use Rattle.runner.proofs.take_first.Goals as goal
@@ -70,8 +70,8 @@ returns-then-fits_events c =
     let first : again (get_or q 0 tick) ≡ get_or q 0 tick = search rules in
     let second : again (get_or q 1 tick) ≡ get_or q 1 tick = search rules in
     let third : again (get_or q 2 tick) ≡ get_or q 2 tick = search rules in
-    (λ i. record { answer = Done; runner = record { «record» = next i; first = first i; second = second i; third = third i } })
-    ∙ ap (λ es. record { answer = Done; runner = record { «record» = (tried (goal.at.returns-then-fits_events c).In-loop-k).next; first = get_or es 0 tick; second = get_or es 1 tick; third = get_or es 2 tick } }) m
+    (λ i. record { answer = done tt; runner = record { «record» = next i; first = first i; second = second i; third = third i } })
+    ∙ ap (λ es. record { answer = done tt; runner = record { «record» = (tried (goal.at.returns-then-fits_events c).In-loop-k).next; first = get_or es 0 tick; second = get_or es 1 tick; third = get_or es 2 tick } }) m
     ∙ sym (ap (taken c.args.runner) p)
 
 pub loop-k-preserved : goal.loop-k-preserved
