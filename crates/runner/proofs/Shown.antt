@@ -1,6 +1,7 @@
 -- Shown events by their sign: what the tests `x <= 0`, `x == 0` and `x < 0` say of what a side can show, and of what fits.
 use mathlib.Core.Path.{◌≡◌, refl, sym, ◌∙◌}
 use mathlib.Core.Bool.{true, false, true≢false}
+use mathlib.Core.List.{[], ◌∷◌}
 use Prim.Native.Nat.{ℕ, zero, suc, ◌-◌}
 use native.Mathlib.Decide.{ℕ_discrete}
 use native.Mathlib.Omega.{arith}
@@ -8,10 +9,11 @@ use borrow.Author.Tests.{ltb-true, leb-true, leb-false, eq-eqb, ne_eqb}
 use lib.Dec.{leb-zero, eqb}
 use lib.IntN.{pos, negsuc}
 use lib.Signed.{lt_z, le_z}
-use Rattle.std.proofs.Common.{w8, SFits, of_z}
+use Rattle.std.proofs.Common.{w8, SFits, to_z, of_z}
 use Rattle.model.specs.Events.{Event, same_event}
 use Rattle.model.specs.Runs.{fits}
 use Rattle.layout.specs.Tests.{in_range}
+use Rattle.layout.proofs.SignedBytes.{read_back}
 use Rattle.runner.specs.Ticks.{can_show}
 
 -- ---- what can be shown
@@ -60,3 +62,7 @@ unfolding fits
 fits_none (pos zero) e n t = absurd (n refl)
 fits_none (pos (suc k)) e n t = refl
 fits_none (negsuc k) e n t = absurd (true≢false t)
+
+-- ---- what is shown is what the machine reads back
+pub read_again : (x y z : Event) → SFits w8 x → SFits w8 y → SFits w8 z → to_z w8 (of_z w8 x) ∷ to_z w8 (of_z w8 y) ∷ to_z w8 (of_z w8 z) ∷ [] ≡ x ∷ y ∷ z ∷ []
+read_again x y z f g h = rw (read_back x f.sfits, read_back y g.sfits, read_back z h.sfits)

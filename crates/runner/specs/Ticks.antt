@@ -60,7 +60,7 @@ ticked cs r xs =
     (taken r (first_fit xs (node (converter cs) r.«record»).edges))
     (refused r (tick_refusal cs r.«record» xs))
 
--- what a tick from runner r is that answers with the next runner
+-- a tick from runner r by what it answers: the next runner, or a refusal
 abbrev pub ticked_as : Runner → Result Runner Refusal → Ticked
 ticked_as r (Ok r') = record { answer = done tt; runner = r' }
 ticked_as r (Err e) = refused r (number e)

@@ -63,6 +63,7 @@ fn fits_events(shown: [i8; sizes::SIDES], events: [i8; sizes::SIDES]) -> bool
 // ---- the tick
 
 // The refusal of the first test that fails.
+#[tactic(auto, using(std::proofs::lemmas::Bool::Decides::nat_tests), unfolding(crate::specs::Ticks::tick_refusal, refusals::specs::Refusals::first_failing))]
 fn tick_refusal(s: &[u8], c: usize, shown: [i8; sizes::SIDES]) -> Result<(), Refusal>
     ensures { refusal_of result ≡ tick_refusal s.now c shown }
 {
@@ -83,7 +84,12 @@ fn tick_refusal(s: &[u8], c: usize, shown: [i8; sizes::SIDES]) -> Result<(), Ref
 }
 
 // The first transition of record c that fits is taken, where c is a right record.
-fn take_first(s: &[u8], c: usize, runner: Runner, shown: [i8; sizes::SIDES]) -> Result<Runner, Refusal>
+fn take_first(
+    s: &[u8],
+    c: usize,
+    runner: Runner,
+    shown: [i8; sizes::SIDES],
+) -> Result<Runner, Refusal>
     requires { (c < records s.now) × (record_right s.now (records s.now) (record_bytes * c) ≡ true) }
     ensures { ticked_as runner result ≡ taken runner (first_fit shown (node (converter s.now) c).edges) }
 {
@@ -106,7 +112,13 @@ fn take_first(s: &[u8], c: usize, runner: Runner, shown: [i8; sizes::SIDES]) -> 
 }
 
 // A tick with the runner by value.
-pub fn step(converter: &[u8], runner: Runner, first: i8, second: i8, third: i8) -> Result<Runner, Refusal>
+pub fn step(
+    converter: &[u8],
+    runner: Runner,
+    first: i8,
+    second: i8,
+    third: i8,
+) -> Result<Runner, Refusal>
     ensures { ticked_as runner result ≡ ticked converter.now runner (first ∷ second ∷ third ∷ []) }
 {
     let c = usize::from(runner.record);
@@ -116,7 +128,13 @@ pub fn step(converter: &[u8], runner: Runner, first: i8, second: i8, third: i8) 
 }
 
 // A tick with the runner lent. A refusal leaves it as it was.
-pub fn tick(converter: &[u8], runner: &mut Runner, first: i8, second: i8, third: i8) -> Result<(), Refusal>
+pub fn tick(
+    converter: &[u8],
+    runner: &mut Runner,
+    first: i8,
+    second: i8,
+    third: i8,
+) -> Result<(), Refusal>
     ensures { Ticks converter.now runner.old (first ∷ second ∷ third ∷ []) result runner.new }
 {
     *runner = step(converter, *runner, first, second, third)?;

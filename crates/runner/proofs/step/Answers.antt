@@ -10,9 +10,9 @@ use Rattle.model.specs.Events.{Event}
 use Rattle.model.specs.Converters.{node}
 use Rattle.model.specs.Runs.{first_fit}
 use Rattle.layout.specs.Converters.{converter}
-use Rattle.layout.proofs.SignedBytes.{read_back}
 use Rattle.refusals.proofs.Answered.{number_some}
 use Rattle.runner.specs.Ticks.{tick_refusal, refused, taken, ticked_as}
+use Rattle.runner.proofs.Shown.{read_again}
 use Rattle.runner.proofs.Refusals.{passes, goes_on, stays}
 use Rattle.runner.proofs.step.Goals as goal
 use Rattle.runner.proofs.step.Goals.{After-from-c, Start}
@@ -25,14 +25,12 @@ shown c = c.args.first ∷ c.args.second ∷ c.args.third ∷ []
 abbrev again : Event → Event
 again x = to_z w8 (of_z w8 x)
 
-read : (c : Start) → again c.args.first ∷ again c.args.second ∷ again c.args.third ∷ [] ≡ shown c
-read c =
-    ap₂ {C = List Event} ◌∷◌ (read_back c.args.first c.ranges.first.sfits)
-    (ap₂ {C = List Event} (λ x y. x ∷ y ∷ []) (read_back c.args.second c.ranges.second.sfits) (read_back c.args.third c.ranges.third.sfits))
-
 -- what the tests are of
-tests : (c : After-from-c) → tick_refusal c.args.converter.now c.from-c.result (again c.args.first ∷ again c.args.second ∷ again c.args.third ∷ []) ≡ tick_refusal c.args.converter.now c.args.runner.«record» (c.args.first ∷ c.args.second ∷ c.args.third ∷ [])
-tests c = ap₂ (tick_refusal c.args.converter.now) c.from-c.ensures (ap₂ {C = List Event} ◌∷◌ (read_back c.args.first c.ranges.first.sfits) (ap₂ {C = List Event} (λ x y. x ∷ y ∷ []) (read_back c.args.second c.ranges.second.sfits) (read_back c.args.third c.ranges.third.sfits)))
+tests : (c : After-from-c) → let a = c.args in
+    tick_refusal a.converter.now c.from-c.result (again a.first ∷ again a.second ∷ again a.third ∷ []) ≡ tick_refusal a.converter.now a.runner.«record» (a.first ∷ a.second ∷ a.third ∷ [])
+tests c =
+    let r = c.ranges in
+    ap₂ (tick_refusal c.args.converter.now) c.from-c.ensures (read_again c.args.first c.args.second c.args.third r.first r.second r.third)
 
 pub returns-in_err-tick_refusal : goal.returns-in_err-tick_refusal
 returns-in_err-tick_refusal c =
@@ -53,6 +51,7 @@ take_first-requires c =
 pub returns : goal.returns
 returns c =
     let a = c.args in
+    let r = c.ranges in
     c.take_first.ensures
-    ∙ ap₂ (λ r xs. taken a.runner (first_fit xs (node (converter a.converter.now) r).edges)) c.from-c.ensures (read (goal.at.returns c).Start)
+    ∙ ap₂ (λ n xs. taken a.runner (first_fit xs (node (converter a.converter.now) n).edges)) c.from-c.ensures (read_again a.first a.second a.third r.first r.second r.third)
     ∙ sym (goes_on a.converter.now a.runner (shown (goal.at.returns c).Start) (sym (c.in_ok-tick_refusal.ensures ∙ tests (goal.at.returns c).After-from-c)))
