@@ -6,8 +6,10 @@ mod judging;
 mod ticks;
 mod waiting;
 
-fn main() {
-    judging::rows();
-    waiting::rows();
-    ticks::rows();
+use std::io;
+
+fn main(rt: HostRuntime) -> io::Result<()> {
+    judging::rows(&rt)?;
+    waiting::rows(&rt)?;
+    ticks::rows(&rt)
 }

@@ -1,55 +1,74 @@
 // Rows of the tick.
+use layout::events;
 use row_parts::{lines, tables};
+use runner::Runner;
+use std::io;
+
+// An answer as a number.
+fn number(answer: runner::Answer) -> u64 {
+    match answer {
+        runner::Answer::Done => 0,
+        runner::Answer::Refused(k) => u64::from(k),
+    }
+}
 
 // One tick of a converter from a record: the answer, and where the runner stands then.
-fn tick(words: &[u8], converter: &[u8], record: u16, first: i8, second: i8, third: i8) {
-    let before = runner::Runner {
-        record: record,
+fn tick(
+    rt: &impl Print,
+    words: &str,
+    converter: &[u8],
+    record: u16,
+    shown: (i8, i8, i8),
+) -> io::Result<()> {
+    let before = Runner {
+        record,
         first: 0,
         second: 0,
         third: 0,
     };
-    let after = runner::step(converter, before, first, second, third);
-    let answer = after.answer;
-    match answer {
-        runner::Answer::Done => lines::line(words, 0),
-        runner::Answer::Refused(k) => lines::line(words, k as u64),
+    let (first, second, third) = shown;
+    let ticked = runner::step(converter, before, first, second, third);
+    let then = ticked.runner;
+    lines::line(rt, words, number(ticked.answer))?;
+    lines::line(rt, "  then at record", u64::from(then.record))?;
+    for (side, event) in [(1, then.first), (2, then.second), (3, then.third)] {
+        println!(rt;
+            "  delivered to side {side}, as a byte: {}",
+            events::to_byte(event)
+        )?;
     }
-    let then = after.runner;
-    lines::line(b"  then at record", then.record as u64);
-    lines::line(
-        b"  delivered to side 1, as a byte",
-        layout::events::to_byte(then.first) as u64,
-    );
-    lines::line(
-        b"  delivered to side 2, as a byte",
-        layout::events::to_byte(then.second) as u64,
-    );
-    lines::line(
-        b"  delivered to side 3, as a byte",
-        layout::events::to_byte(then.third) as u64,
-    );
+    Ok(())
 }
 
-pub fn rows() {
-    tick(b"F at record 1, shown -2 and 0", &tables::F, 1, -2, 0, 0);
-    tick(b"F at record 0, shown -2 and 0", &tables::F, 0, -2, 0, 0);
-    tick(b"F at record 3, shown 0 and 0", &tables::F, 3, 0, 0, 0);
-    tick(b"F at record 0, shown 1 and 0", &tables::F, 0, 1, 0, 0);
+pub fn rows(rt: &impl Print) -> io::Result<()> {
     tick(
-        b"F at record 1, shown -2 and 0, and -1 by the third side",
+        rt,
+        "F at record 1, shown -2 and 0",
         &tables::F,
         1,
-        -2,
-        0,
-        -1,
-    );
+        (-2, 0, 0),
+    )?;
     tick(
-        b"eight joint moves, shown -1, 0 and -3",
+        rt,
+        "F at record 0, shown -2 and 0",
+        &tables::F,
+        0,
+        (-2, 0, 0),
+    )?;
+    tick(rt, "F at record 3, shown 0 and 0", &tables::F, 3, (0, 0, 0))?;
+    tick(rt, "F at record 0, shown 1 and 0", &tables::F, 0, (1, 0, 0))?;
+    tick(
+        rt,
+        "F at record 1, shown -2 and 0, and -1 by the third side",
+        &tables::F,
+        1,
+        (-2, 0, -1),
+    )?;
+    tick(
+        rt,
+        "eight joint moves, shown -1, 0 and -3",
         &tables::ALL_EIGHT,
         0,
-        -1,
-        0,
-        -3,
-    );
+        (-1, 0, -3),
+    )
 }

@@ -3,6 +3,7 @@ ghost use Rattle.std.specs.Prelude.{◌*◌, ◌≤◌, length};
 ghost use Rattle.layout.specs.Sizes.{state_bytes, formula_bytes, most_states, most_formulas, most_rules};
 
 use row_parts::{designs, lines, tables};
+use std::io;
 
 // ---- H with s0 at 0 to 0, at 0 to 1 and at 0 to 2 waits: s0, s1, and the counts of s0 from 1 on; and converters that leave t0 alone, a record for each of these
 
@@ -54,75 +55,71 @@ const PICTURE: [u8; 12] = [1, 0, 0, 0, 3, 16, 0, 0, 8, 0, 1, 0];
 
 // ---- the judge
 
-// Its answer as a number, with so many of the lent bytes and of the lent numbers.
-fn answer(
-    d: &[u8],
-    converter: &[u8],
-    work: &mut [u8],
-    room: usize,
-    list: &mut [u32],
-    listed: usize,
-) -> u64
-    requires { (room ≤ length work.old) × (listed ≤ length list.old) }
-{
-    let v = judge::judge(d, converter, &mut work[0..room], &mut list[0..listed]);
-    match v {
+// Its answer as a number.
+fn answer(d: &[u8], converter: &[u8], work: &mut [u8], list: &mut [u32]) -> u64 {
+    match judge::judge(d, converter, work, list) {
         judge::Verdict::Yes => 0,
-        judge::Verdict::Refused(k) => k as u64,
+        judge::Verdict::Refused(k) => u64::from(k),
     }
 }
 
-fn wide(t: u32) -> u64 {
-    t as u64
-}
-
-fn number(list: &[u32; 5], i: usize)
-    requires { i ≤ 4 }
-{
-    lines::line(b"  listed", wide(list[i]));
-}
-
-// The answer, and the list after.
-fn waited(words: &[u8], d: &[u8; 2048], converter: &[u8], room: usize, listed: usize)
+// The answer, with so many of the lent bytes and of the lent numbers, and the list after.
+fn waited(
+    rt: &impl Print,
+    words: &str,
+    d: &[u8],
+    converter: &[u8],
+    room: usize,
+    listed: usize,
+) -> io::Result<()>
     requires { (room ≤ 1600) × (listed ≤ 5) }
 {
     let mut work = [7u8; 1600];
     let mut list = [7u32; 5];
     lines::line(
+        rt,
         words,
-        answer(d, converter, &mut work, room, &mut list, listed),
-    );
-    number(&list, 0);
-    number(&list, 1);
-    number(&list, 2);
-    number(&list, 3);
-    number(&list, 4);
+        answer(d, converter, &mut work[..room], &mut list[..listed]),
+    )?;
+    for n in list {
+        lines::line(rt, "  listed", u64::from(n))?;
+    }
+    Ok(())
 }
 
 // ---- the designs
 
 // These formulas and rules of H, with this kernel in the place of its own.
 fn handshake(
-    words: &[u8],
+    rt: &impl Print,
+    words: &str,
     kernel: &[u8],
     formulas: &[u8],
     rules: &[u8],
     converter: &[u8],
     room: usize,
     listed: usize,
-)
+) -> io::Result<()>
     requires { (length kernel.now ≤ state_bytes * most_states) × (length formulas.now ≤ formula_bytes * most_formulas) × (length rules.now ≤ most_rules) × (room ≤ 1600) × (listed ≤ 5) }
 {
     let mut d = [0u8; 2048];
     designs::design(&mut d, kernel, &tables::H_HOST, formulas, rules);
-    waited(words, &d, converter, room, listed);
+    waited(rt, words, &d, converter, room, listed)
 }
 
 // F under the paper's four rules.
-fn four(words: &[u8], formulas: &[u8; 144], converter: &[u8], room: usize, listed: usize)
+fn four(
+    rt: &impl Print,
+    words: &str,
+    formulas: &[u8; 144],
+    converter: &[u8],
+    room: usize,
+    listed: usize,
+) -> io::Result<()>
     requires { (room ≤ 1600) × (listed ≤ 5) }
 {
     handshake(
+        rt,
         words,
         &tables::H_KERNEL,
         formulas,
@@ -130,18 +127,18 @@ fn four(words: &[u8], formulas: &[u8; 144], converter: &[u8], room: usize, liste
         converter,
         room,
         listed,
-    );
+    )
 }
 
 // A(true U 1), where s0 waits so often at the most.
-fn sent(words: &[u8], kernel: &[u8], converter: &[u8])
+fn sent(rt: &impl Print, words: &str, kernel: &[u8], converter: &[u8]) -> io::Result<()>
     requires { length kernel.now ≤ state_bytes * most_states }
 {
-    handshake(words, kernel, &tables::UNTIL, &[2], converter, 64, 1);
+    handshake(rt, words, kernel, &tables::UNTIL, &[2], converter, 64, 1)
 }
 
 // Two untils and the always over both, of the states in turn.
-fn in_turn() {
+fn in_turn(rt: &impl Print) -> io::Result<()> {
     let mut d = [0u8; 2048];
     designs::design(
         &mut d,
@@ -151,110 +148,118 @@ fn in_turn() {
         &[3, 4, 6],
     );
     waited(
-        b"two states in turn, A(true U 0), A(true U 1) and AG of both",
+        rt,
+        "two states in turn, A(true U 0), A(true U 1) and AG of both",
         &d,
         &IN_TURN,
         32,
         3,
-    );
+    )
 }
 
-// Record i of a hundred, in which both tick, to the next.
-fn link(c: &mut [u8; 5200], i: usize)
-    requires { i ≤ 99 }
-{
-    c[52 * i + 3] = 1;
-    c[52 * i + 8] = (i + 1) as u8;
-}
-
-fn links(c: &mut [u8; 5200]) {
-    let mut i = 0;
-    while i < 100 {
-        link(c, i);
-        i += 1;
-    }
-}
-
-fn chained(c: &[u8; 5200]) {
-    let mut d = [0u8; 2048];
-    designs::design(&mut d, &tables::TICKING, &VIEWER, &PICTURE, &[2]);
-    waited(b"a chain of 100 records, A(true U 16)", &d, c, 1600, 1);
-}
-
-// The last of them shows the picture: in the one before it the host reads 1, and it ticks back to the first.
-fn chain() {
+// Of a hundred records, in which both tick, each leads to the next. The last shows the picture: in the one before it the host reads 1, and it ticks back to the first.
+fn chain(rt: &impl Print) -> io::Result<()> {
     let mut c = [0u8; 5200];
-    links(&mut c);
+    for i in 0..100u8 {
+        let at = 52 * usize::from(i);
+        c[at + 3] = 1;
+        c[at + 8] = i + 1;
+    }
     c[5101] = 255;
     c[5149] = 1;
     c[5156] = 0;
-    chained(&c);
+    let mut d = [0u8; 2048];
+    designs::design(&mut d, &tables::TICKING, &VIEWER, &PICTURE, &[2]);
+    waited(rt, "a chain of 100 records, A(true U 16)", &d, &c, 1600, 1)
 }
 
-pub fn rows() {
+pub fn rows(rt: &impl Print) -> io::Result<()> {
     handshake(
-        b"F, A(true U 0)",
+        rt,
+        "F, A(true U 0)",
         &tables::H_KERNEL,
         &IDLE,
         &[2],
         &tables::F,
         48,
         2,
-    );
-    sent(b"H with s0 at 0 to 0, A(true U 1)", &AT_ONCE, &SENT_AT_ONCE);
-    sent(b"H with s0 at 0 to 1, A(true U 1)", &BY_ONE, &SENT_BY_ONE);
-    sent(b"H with s0 at 0 to 2, A(true U 1)", &BY_TWO, &SENT_BY_TWO);
-    in_turn();
-    chain();
+    )?;
+    sent(
+        rt,
+        "H with s0 at 0 to 0, A(true U 1)",
+        &AT_ONCE,
+        &SENT_AT_ONCE,
+    )?;
+    sent(
+        rt,
+        "H with s0 at 0 to 1, A(true U 1)",
+        &BY_ONE,
+        &SENT_BY_ONE,
+    )?;
+    sent(
+        rt,
+        "H with s0 at 0 to 2, A(true U 1)",
+        &BY_TWO,
+        &SENT_BY_TWO,
+    )?;
+    in_turn(rt)?;
+    chain(rt)?;
     four(
-        b"F, the fourth rule mended, five numbers",
+        rt,
+        "F, the fourth rule mended, five numbers",
         &tables::MENDED,
         &tables::F,
         48,
         5,
-    );
+    )?;
     four(
-        b"F, the fourth rule mended, three numbers",
+        rt,
+        "F, the fourth rule mended, three numbers",
         &tables::MENDED,
         &tables::F,
         48,
         3,
-    );
+    )?;
     four(
-        b"F, three numbers and 47 bytes of work",
+        rt,
+        "F, three numbers and 47 bytes of work",
         &tables::MENDED,
         &tables::F,
         47,
         3,
-    );
+    )?;
     four(
-        b"F without its last record, three numbers",
+        rt,
+        "F without its last record, three numbers",
         &tables::MENDED,
         &tables::F[..104],
         48,
         3,
-    );
+    )?;
     four(
-        b"F without (0,0) in record 0, four numbers",
+        rt,
+        "F without (0,0) in record 0, four numbers",
         &tables::MENDED,
         &tables::F_DEAF,
         48,
         4,
-    );
+    )?;
     four(
-        b"F, the four rules as printed, four numbers",
+        rt,
+        "F, the four rules as printed, four numbers",
         &tables::PRINTED,
         &tables::F,
         48,
         4,
-    );
+    )?;
     handshake(
-        b"F without rules and without numbers",
+        rt,
+        "F without rules and without numbers",
         &tables::H_KERNEL,
         &tables::UNTIL,
-        &tables::F[..0],
+        &[],
         &tables::F,
         48,
         0,
-    );
+    )
 }
