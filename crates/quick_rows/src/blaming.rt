@@ -4,6 +4,7 @@ ghost use Rattle.layout.specs.Sizes.{most_rules};
 
 use judge::quick;
 use row_parts::{designs, lines, tables};
+use std::io;
 
 // The converter that enables the first input of the fork alone.
 const FORK_FIRST: [u8; 104] = *b"\
@@ -14,53 +15,59 @@ const FORK_FIRST: [u8; 104] = *b"\
 const SIXTEEN: [u8; 16] = [26, 17, 8, 8, 26, 35, 8, 17, 26, 35, 8, 8, 17, 17, 26, 35];
 
 // An answer as two numbers: the call's, and the place.
-#[derive(Clone, Copy)]
-struct Said(u64, u64);
-
-fn numbers(a: quick::Outcome) -> Said {
+fn numbers(a: quick::Outcome) -> (u64, u64) {
     match a {
-        quick::Outcome::Yes => Said(0, 99),
-        quick::Outcome::Fails(k) => Said(15, k as u64),
-        quick::Outcome::Refused(k) => Said(k as u64, 99),
+        quick::Outcome::Yes => (0, 99),
+        quick::Outcome::Fails(k) => (15, u64::from(k)),
+        quick::Outcome::Refused(k) => (u64::from(k), 99),
     }
 }
 
-fn same(a: &[u8; 70], b: &[u8; 70]) -> bool {
-    check::same(a, b)
-}
-
 // The answer with so many of the lent bytes, and whether the work is left as it should be: 7 everywhere at first, then 0 in so many bytes.
-fn blamed(words: &[u8], d: &[u8; 2048], converter: &[u8], room: usize, cleared: usize)
+fn blamed(
+    rt: &impl Print,
+    words: &str,
+    d: &[u8],
+    converter: &[u8],
+    room: usize,
+    cleared: usize,
+) -> io::Result<()>
     requires { (room ≤ 70) × (cleared ≤ 70) }
 {
     let mut lent = [7u8; 70];
     let mut expected = [7u8; 70];
-    let a = quick::verdict(d, converter, &mut lent[0..room]);
-    let s = numbers(a);
-    lines::line(words, s.0);
-    lines::line(b"  rule", s.1);
-    layout::ranges::fill(&mut expected, 0, cleared, 0);
-    lines::yes_or_no(b"  work as promised", same(&expected, &lent));
+    let (said, rule) = numbers(quick::verdict(d, converter, &mut lent[..room]));
+    lines::line(rt, words, said)?;
+    lines::line(rt, "  rule", rule)?;
+    expected[..cleared].fill(0);
+    lines::yes_or_no(rt, "  work as promised", lent == expected)
 }
 
 // A converter of the handshake pair against these of the paper's rules.
 fn handshake(
-    words: &[u8],
+    rt: &impl Print,
+    words: &str,
     formulas: &[u8; 144],
     rules: &[u8],
     converter: &[u8],
     room: usize,
     cleared: usize,
-)
+) -> io::Result<()>
     requires { (length rules.now ≤ most_rules) × (room ≤ 70) × (cleared ≤ 70) }
 {
     let mut d = [0u8; 2048];
     designs::design(&mut d, &tables::H_KERNEL, &tables::H_HOST, formulas, rules);
-    blamed(words, &d, converter, room, cleared);
+    blamed(rt, words, &d, converter, room, cleared)
 }
 
 // A converter of the fork against these rules over AX 16 and AX 17.
-fn fork(words: &[u8], rules: &[u8], converter: &[u8], cleared: usize)
+fn fork(
+    rt: &impl Print,
+    words: &str,
+    rules: &[u8],
+    converter: &[u8],
+    cleared: usize,
+) -> io::Result<()>
     requires { (length rules.now ≤ most_rules) × (cleared ≤ 70) }
 {
     let mut d = [0u8; 2048];
@@ -71,116 +78,129 @@ fn fork(words: &[u8], rules: &[u8], converter: &[u8], cleared: usize)
         &tables::EITHER,
         rules,
     );
-    blamed(words, &d, converter, 70, cleared);
+    blamed(rt, words, &d, converter, 70, cleared)
 }
 
-fn of_handshake() {
+fn of_handshake(rt: &impl Print) -> io::Result<()> {
     handshake(
-        b"quick: F, the four rules as printed",
+        rt,
+        "quick: F, the four rules as printed",
         &tables::PRINTED,
         &tables::FOUR,
         &tables::F,
         70,
         48,
-    );
+    )?;
     handshake(
-        b"quick: F, the four rules as printed, the last first",
+        rt,
+        "quick: F, the four rules as printed, the last first",
         &tables::PRINTED,
         &[35, 26, 17, 8],
         &tables::F,
         48,
         48,
-    );
+    )?;
     handshake(
-        b"quick: F, sixteen rules, the fourth at places 5, 9 and 15",
+        rt,
+        "quick: F, sixteen rules, the fourth at places 5, 9 and 15",
         &tables::PRINTED,
         &SIXTEEN,
         &tables::F,
         70,
         48,
-    );
+    )?;
     handshake(
-        b"quick: F, the fourth rule mended",
+        rt,
+        "quick: F, the fourth rule mended",
         &tables::MENDED,
         &tables::FOUR,
         &tables::F,
         70,
         48,
-    );
+    )?;
     handshake(
-        b"quick: F, sixteen rules, the fourth mended",
+        rt,
+        "quick: F, sixteen rules, the fourth mended",
         &tables::MENDED,
         &SIXTEEN,
         &tables::F,
         70,
         48,
-    );
+    )?;
     handshake(
-        b"quick: F without rules",
+        rt,
+        "quick: F without rules",
         &tables::PRINTED,
-        &tables::F[..0],
+        &[],
         &tables::F,
         70,
         48,
-    );
+    )
 }
 
-fn refused() {
+fn refused(rt: &impl Print) -> io::Result<()> {
     handshake(
-        b"quick: F without (0,0) in record 0",
+        rt,
+        "quick: F without (0,0) in record 0",
         &tables::PRINTED,
         &tables::FOUR,
         &tables::F_DEAF,
         70,
         48,
-    );
+    )?;
     handshake(
-        b"quick: F, 47 bytes of work",
+        rt,
+        "quick: F, 47 bytes of work",
         &tables::PRINTED,
         &tables::FOUR,
         &tables::F,
         47,
         0,
-    );
+    )?;
     handshake(
-        b"quick: F without its last record, 47 bytes of work",
+        rt,
+        "quick: F without its last record, 47 bytes of work",
         &tables::PRINTED,
         &tables::FOUR,
         &tables::F[..104],
         47,
         0,
-    );
+    )?;
     handshake(
-        b"quick: F without its last byte",
+        rt,
+        "quick: F without its last byte",
         &tables::PRINTED,
         &tables::FOUR,
         &tables::F[..155],
         70,
         0,
-    );
+    )?;
     handshake(
-        b"quick: a rule that names no formula, F without its last byte",
+        rt,
+        "quick: a rule that names no formula, F without its last byte",
         &tables::PRINTED,
         &[36],
         &tables::F[..155],
         70,
         0,
-    );
+    )
 }
 
-pub fn rows() {
-    of_handshake();
+pub fn rows(rt: &impl Print) -> io::Result<()> {
+    of_handshake(rt)?;
     fork(
-        b"quick: both inputs of h0, (AX 16) or (AX 17)",
+        rt,
+        "quick: both inputs of h0, (AX 16) or (AX 17)",
         &[4],
         &tables::FORK_OPEN,
         48,
-    );
+    )?;
     fork(
-        b"quick: the first input of h0, AX 16 and AX 17",
+        rt,
+        "quick: the first input of h0, AX 16 and AX 17",
         &[2, 3],
         &FORK_FIRST,
         32,
-    );
-    refused();
+    )?;
+    refused(rt)
 }

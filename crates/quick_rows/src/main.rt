@@ -4,6 +4,8 @@
 
 mod blaming;
 
-fn main() {
-    blaming::rows();
+use std::io;
+
+fn main(rt: HostRuntime) -> io::Result<()> {
+    blaming::rows(&rt)
 }
