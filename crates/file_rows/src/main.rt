@@ -4,200 +4,158 @@
 
 ghost use Rattle.std.specs.Prelude.{◌<◌, ◌≤◌, length};
 
-use layout::blocks;
+use files::answers::{Read, Written};
+use layout::{blocks, sizes};
 use row_parts::{lines, tables};
+use std::io;
 
-// ---- the calls, with so many of the lent bytes
+// ---- the calls, and their answers as a number
 
-fn write_front(converter: &[u8], lent: &mut [u8], room: usize) -> u64
-    requires { room ≤ length lent.old }
-{
-    let answer = files::writer::write(converter, &mut lent[0..room]);
-    match answer {
-        files::answers::Written::Blocks(n) => n as u64,
-        files::answers::Written::Refused(k) => k as u64,
+fn write_front(converter: &[u8], lent: &mut [u8]) -> u64 {
+    match files::writer::write(converter, lent) {
+        Written::Blocks(n) => n as u64,
+        Written::Refused(k) => u64::from(k),
     }
 }
 
-fn read_front(file: &[u8], lent: &mut [u8], room: usize) -> u64
-    requires { room ≤ length lent.old }
-{
-    let answer = files::reader::read(file, &mut lent[0..room]);
-    match answer {
-        files::answers::Read::Records(n) => n as u64,
-        files::answers::Read::Refused(k) => k as u64,
+fn read_front(file: &[u8], lent: &mut [u8]) -> u64 {
+    match files::reader::read(file, lent) {
+        Read::Records(n) => n as u64,
+        Read::Refused(k) => u64::from(k),
     }
 }
 
-// ---- what a call answers, and whether it left the lent bytes as they were
+// ---- what a call answers with so many of the lent bytes, and whether it left them as they were
 
-fn same(a: &[u8; 1024], b: &[u8; 1024]) -> bool {
-    check::same(a, b)
+fn unchanged(rt: &impl Print, lent: &[u8; 1024]) -> io::Result<()> {
+    lines::yes_or_no(rt, "  lent bytes unchanged", *lent == [170; 1024])
 }
 
-fn unchanged(lent: &[u8; 1024]) {
-    let before = [170u8; 1024];
-    lines::yes_or_no(b"  lent bytes unchanged", same(&before, lent));
-}
-
-fn write(words: &[u8], converter: &[u8], room: usize)
+fn write(rt: &impl Print, words: &str, converter: &[u8], room: usize) -> io::Result<()>
     requires { room ≤ 1024 }
 {
     let mut lent = [170u8; 1024];
-    lines::line(words, write_front(converter, &mut lent, room));
-    unchanged(&lent);
+    lines::line(rt, words, write_front(converter, &mut lent[..room]))?;
+    unchanged(rt, &lent)
 }
 
-fn read(words: &[u8], file: &[u8], room: usize)
+fn read(rt: &impl Print, words: &str, file: &[u8], room: usize) -> io::Result<()>
     requires { room ≤ 1024 }
 {
     let mut lent = [170u8; 1024];
-    lines::line(words, read_front(file, &mut lent, room));
-    unchanged(&lent);
+    lines::line(rt, words, read_front(file, &mut lent[..room]))?;
+    unchanged(rt, &lent)
 }
 
 // ---- the writer
 
 // F with a byte changed.
-fn changed_record(words: &[u8], at: usize, v: u8)
+fn changed_record(rt: &impl Print, words: &str, at: usize, v: u8) -> io::Result<()>
     requires { at < 156 }
 {
     let mut c = tables::F;
     c[at] = v;
-    write(words, &c, 512);
+    write(rt, words, &c, 512)
 }
 
-fn writer() {
-    let none = [0u8; 0];
-    write(b"a converter of 0 bytes", &none, 512);
-    let short = [0u8; 51];
-    write(b"a converter of 51 bytes", &short, 512);
-    let long = [0u8; 53];
-    write(b"a converter of 53 bytes", &long, 512);
-    changed_record(b"a record of state 16", 0, 16);
-    changed_record(b"a record with 0 transitions", 3, 0);
-    changed_record(b"a record with 9 transitions", 3, 9);
-    changed_record(b"a record with 255 transitions", 3, 255);
-    changed_record(b"the zero inside a place of a record", 7, 1);
-    changed_record(b"event -64 in a record", 4, 192);
-    changed_record(b"the events of the sides twice", 10, 1);
-    changed_record(b"a next record that isn't there", 8, 3);
-    changed_record(b"an unused place of a record", 51, 1);
-    write(b"F, 511 bytes lent", &tables::F, 511);
-    write(b"F, 512 bytes lent, blocks", &tables::F, 512);
+fn writer(rt: &impl Print) -> io::Result<()> {
+    write(rt, "a converter of 0 bytes", &[], 512)?;
+    write(rt, "a converter of 51 bytes", &[0; 51], 512)?;
+    write(rt, "a converter of 53 bytes", &[0; 53], 512)?;
+    changed_record(rt, "a record of state 16", 0, 16)?;
+    changed_record(rt, "a record with 0 transitions", 3, 0)?;
+    changed_record(rt, "a record with 9 transitions", 3, 9)?;
+    changed_record(rt, "a record with 255 transitions", 3, 255)?;
+    changed_record(rt, "the zero inside a place of a record", 7, 1)?;
+    changed_record(rt, "event -64 in a record", 4, 192)?;
+    changed_record(rt, "the events of the sides twice", 10, 1)?;
+    changed_record(rt, "a next record that isn't there", 8, 3)?;
+    changed_record(rt, "an unused place of a record", 51, 1)?;
+    write(rt, "F, 511 bytes lent", &tables::F, 511)?;
+    write(rt, "F, 512 bytes lent, blocks", &tables::F, 512)
 }
 
 // ---- the block reader
 
 // F five times over: fifteen records.
-fn fifteen(c: &mut [u8; 780]) {
-    layout::ranges::copy(&tables::F, 0, c, 0, 156);
-    layout::ranges::copy(&tables::F, 0, c, 156, 156);
-    layout::ranges::copy(&tables::F, 0, c, 312, 156);
-    layout::ranges::copy(&tables::F, 0, c, 468, 156);
-    layout::ranges::copy(&tables::F, 0, c, 624, 156);
+fn fifteen() -> [u8; 780] {
+    let mut c = [0u8; 780];
+    for i in 0..5 {
+        c[156 * i..156 * (i + 1)].copy_from_slice(&tables::F);
+    }
+    c
 }
 
 // Their file: a block of nine records, and one of six.
-fn two_blocks(c: &[u8; 780], file: &mut [u8; 1024]) {
-    let _blocks = files::writer::write(c, file);
+fn two_blocks() -> [u8; 1024] {
+    let mut file = [0u8; 1024];
+    let _blocks = files::writer::write(&fifteen(), &mut file);
+    file
 }
 
-fn read_two(words: &[u8], file: &[u8; 1024], room: usize)
-    requires { room ≤ 1024 }
-{
-    read(words, file, room);
-}
-
-// A byte changed, and the check of its block put right again where that is asked.
-fn change(file: &mut [u8; 1024], at: usize, v: u8, sealed: bool)
+// The file with a byte changed, and the check of its block put right again where that is asked.
+fn changed_file(rt: &impl Print, words: &str, at: usize, v: u8, sealed: bool) -> io::Result<()>
     requires { at < 1024 }
 {
+    let mut file = two_blocks();
     file[at] = v;
     if sealed {
-        blocks::seal(file, 512 * (at / 512));
+        blocks::seal(&mut file, sizes::BLOCK_BYTES * (at / sizes::BLOCK_BYTES));
     }
-}
-
-// The file with a byte changed.
-fn changed_file(words: &[u8], at: usize, v: u8, sealed: bool)
-    requires { at < 1024 }
-{
-    let mut c = [0u8; 780];
-    let mut file = [0u8; 1024];
-    fifteen(&mut c);
-    two_blocks(&c, &mut file);
-    change(&mut file, at, v, sealed);
-    read_two(words, &file, 780);
+    read(rt, words, &file, 780)
 }
 
 // The file as it is.
-fn whole_file(words: &[u8], room: usize)
+fn whole_file(rt: &impl Print, words: &str, room: usize) -> io::Result<()>
     requires { room ≤ 1024 }
 {
-    let mut c = [0u8; 780];
-    let mut file = [0u8; 1024];
-    fifteen(&mut c);
-    two_blocks(&c, &mut file);
-    read_two(words, &file, room);
+    read(rt, words, &two_blocks(), room)
 }
 
-fn reader() {
-    let none = [0u8; 0];
-    read(b"a file of 0 bytes", &none, 780);
-    let one = [0u8; 1];
-    read(b"a file of 1 byte", &one, 780);
-    let short = [0u8; 511];
-    read(b"a file of 511 bytes", &short, 780);
-    let long = [0u8; 513];
-    read(b"a file of 513 bytes", &long, 780);
-    changed_file(b"a wrong check", 510, 1, false);
-    changed_file(b"a wrong kind and a wrong check", 512, 9, false);
-    changed_file(b"a wrong kind", 512, 9, true);
-    changed_file(b"a wrong first record", 514, 10, true);
-    changed_file(b"a last block with 0 records", 513, 0, true);
-    changed_file(b"a last block with 10 records", 513, 10, true);
-    changed_file(b"a last block with 255 records", 513, 255, true);
-    changed_file(b"an earlier block with 8 records", 1, 8, true);
-    changed_file(b"an earlier block with 255 records", 1, 255, true);
-    changed_file(b"a byte behind the last record", 828, 1, true);
-    changed_file(b"a record of state 16 in a file", 4, 16, true);
-    changed_file(b"a next record past the file", 12, 15, true);
-    changed_file(b"the zero inside a place in a file", 11, 1, true);
-    whole_file(b"15 records, 779 bytes lent", 779);
-    whole_file(b"15 records, 780 bytes lent, records", 780);
+fn reader(rt: &impl Print) -> io::Result<()> {
+    read(rt, "a file of 0 bytes", &[], 780)?;
+    read(rt, "a file of 1 byte", &[0], 780)?;
+    read(rt, "a file of 511 bytes", &[0; 511], 780)?;
+    read(rt, "a file of 513 bytes", &[0; 513], 780)?;
+    changed_file(rt, "a wrong check", 510, 1, false)?;
+    changed_file(rt, "a wrong kind and a wrong check", 512, 9, false)?;
+    changed_file(rt, "a wrong kind", 512, 9, true)?;
+    changed_file(rt, "a wrong first record", 514, 10, true)?;
+    changed_file(rt, "a last block with 0 records", 513, 0, true)?;
+    changed_file(rt, "a last block with 10 records", 513, 10, true)?;
+    changed_file(rt, "a last block with 255 records", 513, 255, true)?;
+    changed_file(rt, "an earlier block with 8 records", 1, 8, true)?;
+    changed_file(rt, "an earlier block with 255 records", 1, 255, true)?;
+    changed_file(rt, "a byte behind the last record", 828, 1, true)?;
+    changed_file(rt, "a record of state 16 in a file", 4, 16, true)?;
+    changed_file(rt, "a next record past the file", 12, 15, true)?;
+    changed_file(rt, "the zero inside a place in a file", 11, 1, true)?;
+    whole_file(rt, "15 records, 779 bytes lent", 779)?;
+    whole_file(rt, "15 records, 780 bytes lent, records", 780)
 }
 
 // ---- what is written is read back the same, and no byte behind it is changed
 
 // A converter, and as many bytes as its file has.
-fn back(words: &[u8], converter: &[u8], file: &mut [u8])
+fn back(rt: &impl Print, words: &str, converter: &[u8], file: &mut [u8]) -> io::Result<()>
     requires { length converter.now ≤ 1024 }
 {
     let mut lent = [170u8; 1024];
     let mut expected = [170u8; 1024];
-    let n = converter.len();
     let _blocks = files::writer::write(converter, file);
     let _records = files::reader::read(file, &mut lent);
-    layout::ranges::copy(converter, 0, &mut expected, 0, n);
-    lines::yes_or_no(words, same(&expected, &lent));
+    expected[..converter.len()].copy_from_slice(converter);
+    lines::yes_or_no(rt, words, lent == expected)
 }
 
-fn fifteen_back(c: &[u8; 780]) {
-    let mut file = [0u8; 1024];
-    back(b"15 records written and read back", c, &mut file);
-}
-
-fn round_trips() {
-    let mut file = [0u8; 512];
-    back(b"F written and read back", &tables::F, &mut file);
-    let mut c = [0u8; 780];
-    fifteen(&mut c);
-    fifteen_back(&c);
-}
-
-fn main() {
-    writer();
-    reader();
-    round_trips();
+fn main(rt: HostRuntime) -> io::Result<()> {
+    writer(&rt)?;
+    reader(&rt)?;
+    back(&rt, "F written and read back", &tables::F, &mut [0; 512])?;
+    back(
+        &rt,
+        "15 records written and read back",
+        &fifteen(),
+        &mut [0; 1024],
+    )
 }
