@@ -8,9 +8,11 @@ mod longer;
 mod records;
 mod texts;
 
-fn main() {
-    records::rows();
-    edges::rows();
-    longer::rows();
-    handshake::rows();
+use std::io;
+
+fn main(rt: HostRuntime) -> io::Result<()> {
+    records::rows(&rt)?;
+    edges::rows(&rt)?;
+    longer::rows(&rt)?;
+    handshake::rows(&rt)
 }

@@ -1,151 +1,128 @@
 // Rows of texts whose records are written, each with its kind and its two operands.
-ghost use Rattle.std.specs.Prelude.{◌<◌};
-
 use crate::texts;
-use row_parts::lines;
+use std::io;
 
-// A line begins: the words and a number.
-fn begin(words: &[u8], n: usize) {
-    io::write_all(1, words);
-    io::print_decimal(1, n as u64);
-    io::write_all(1, b":");
+fn formula(rt: &impl Print, lent: &[u8; 1030], i: u8) -> io::Result<()> {
+    let at = 4 + 4 * usize::from(i);
+    println!(rt;
+        "  formula {i}: {} {} {}",
+        lent[at],
+        lent[at + 1],
+        lent[at + 2]
+    )
 }
 
-fn number(n: u8) {
-    io::write_all(1, b" ");
-    io::print_decimal(1, n as u64);
-}
-
-fn end() {
-    io::write_all(1, b"\n");
-}
-
-fn formula(lent: &[u8; 1030], i: usize)
-    requires { i < 256 }
-{
-    let at = 4 + 4 * i;
-    begin(b"  formula ", i);
-    number(lent[at]);
-    number(lent[at + 1]);
-    number(lent[at + 2]);
-    end();
-}
-
-fn rule(lent: &[u8; 1030], i: usize)
-    requires { i < 256 }
-{
-    begin(b"  rule ", i);
-    number(lent[516 + i]);
-    end();
-}
-
-// Formulas 0 to n - 1.
-fn formulas(lent: &[u8; 1030], n: usize)
-    requires { n < 256 }
-{
-    for i in 0..n {
-        formula(lent, i);
-    }
-}
-
-// Rules 0 to n - 1.
-fn rules(lent: &[u8; 1030], n: usize)
-    requires { n < 256 }
-{
-    for i in 0..n {
-        rule(lent, i);
-    }
+fn rule(rt: &impl Print, lent: &[u8; 1030], i: u8) -> io::Result<()> {
+    println!(rt; "  rule {i}: {}", lent[516 + usize::from(i)])
 }
 
 // The rules that a text of any length makes, and their records.
-pub fn written(text: &[u8]) {
+pub fn written(rt: &impl Print, text: &[u8]) -> io::Result<()> {
     let mut lent = [170u8; 1030];
-    if texts::answered(text, &mut lent, 1030) {
-        blocks(&lent);
+    if !texts::answered(rt, text, &mut lent)? {
+        return Ok(());
     }
+    for i in 0..texts::formula_count(&lent) {
+        formula(rt, &lent, i)?;
+    }
+    for i in 0..texts::rule_count(&lent) {
+        rule(rt, &lent, i)?;
+    }
+    texts::behind_sides(rt, &lent)
 }
 
-fn blocks(lent: &[u8; 1030]) {
-    formulas(lent, texts::formula_count(lent));
-    rules(lent, texts::rule_count(lent));
-    texts::behind_sides(lent);
+// The same below each text itself.
+fn typed(rt: &impl Print, texts: &[&str]) -> io::Result<()> {
+    for text in texts {
+        print!(rt; "{text}")?;
+        written(rt, text.as_bytes())?;
+    }
+    Ok(())
 }
 
-// The same below the text itself.
-fn typed(text: &[u8]) {
-    io::write_all(1, text);
-    written(text);
+fn names(rt: &impl Print) -> io::Result<()> {
+    typed(rt, &["p0\n", "p9\n", "p10\n", "p47\n", "TRUE\n", "FALSE\n"])
 }
 
-fn names() {
-    typed(b"p0\n");
-    typed(b"p9\n");
-    typed(b"p10\n");
-    typed(b"p47\n");
-    typed(b"TRUE\n");
-    typed(b"FALSE\n");
+fn negations(rt: &impl Print) -> io::Result<()> {
+    typed(
+        rt,
+        &[
+            "!p0\n",
+            "!!p0\n",
+            "!TRUE\n",
+            "!FALSE\n",
+            "!p0 & p1\n",
+            "!(p0 & !p1 | TRUE)\n",
+            "!(p0 -> p1)\n",
+            "!(!p0 -> !(p1 -> p2))\n",
+        ],
+    )
 }
 
-fn negations() {
-    typed(b"!p0\n");
-    typed(b"!!p0\n");
-    typed(b"!TRUE\n");
-    typed(b"!FALSE\n");
-    typed(b"!p0 & p1\n");
-    typed(b"!(p0 & !p1 | TRUE)\n");
-    typed(b"!(p0 -> p1)\n");
-    typed(b"!(!p0 -> !(p1 -> p2))\n");
+fn chains(rt: &impl Print) -> io::Result<()> {
+    typed(
+        rt,
+        &[
+            "p0 & p1 & p2\n",
+            "p0 | p1 | p2\n",
+            "p0 -> p1 -> p2\n",
+            "(p0 -> p1) -> p2\n",
+            "p0 & p1 | p2\n",
+            "p0 | p1 & p2\n",
+            "p0 & (p1 | p2)\n",
+            "p0 & p1 | p2 -> p3\n",
+            "p0 -> p1 | p2 & p3\n",
+            "p0 & p0\n",
+        ],
+    )
 }
 
-fn chains() {
-    typed(b"p0 & p1 & p2\n");
-    typed(b"p0 | p1 | p2\n");
-    typed(b"p0 -> p1 -> p2\n");
-    typed(b"(p0 -> p1) -> p2\n");
-    typed(b"p0 & p1 | p2\n");
-    typed(b"p0 | p1 & p2\n");
-    typed(b"p0 & (p1 | p2)\n");
-    typed(b"p0 & p1 | p2 -> p3\n");
-    typed(b"p0 -> p1 | p2 & p3\n");
-    typed(b"p0 & p0\n");
+fn temporal_parts(rt: &impl Print) -> io::Result<()> {
+    typed(
+        rt,
+        &[
+            "AX p0\n",
+            "AG p4\n",
+            "AF p3\n",
+            "A [ p0 U p1 ]\n",
+            "AX p0 & p1\n",
+            "AG (p0 & p1)\n",
+            "AX AX p0\n",
+            "AG AF p2\n",
+            "AF AX p2\n",
+            "AF AF p0\n",
+            "AX !p0\n",
+            "p0 -> AX p1\n",
+            "A [ p0 -> p1 U p2 | AX p3 ]\n",
+            "A [ A [ p0 U p1 ] U AG p2 ]\n",
+        ],
+    )
 }
 
-fn temporal_parts() {
-    typed(b"AX p0\n");
-    typed(b"AG p4\n");
-    typed(b"AF p3\n");
-    typed(b"A [ p0 U p1 ]\n");
-    typed(b"AX p0 & p1\n");
-    typed(b"AG (p0 & p1)\n");
-    typed(b"AX AX p0\n");
-    typed(b"AG AF p2\n");
-    typed(b"AF AX p2\n");
-    typed(b"AF AF p0\n");
-    typed(b"AX !p0\n");
-    typed(b"p0 -> AX p1\n");
-    typed(b"A [ p0 -> p1 U p2 | AX p3 ]\n");
-    typed(b"A [ A [ p0 U p1 ] U AG p2 ]\n");
+fn spaces(rt: &impl Print) -> io::Result<()> {
+    typed(
+        rt,
+        &[
+            "AX(p0)\n",
+            "AX!p0\n",
+            "A[(p0)U(p1)]\n",
+            "A[p0 U p1]\n",
+            "p0->p1\n",
+            "  p0  &  ( ! p1 )  \n",
+        ],
+    )
 }
 
-fn spaces() {
-    typed(b"AX(p0)\n");
-    typed(b"AX!p0\n");
-    typed(b"A[(p0)U(p1)]\n");
-    typed(b"A[p0 U p1]\n");
-    typed(b"p0->p1\n");
-    typed(b"  p0  &  ( ! p1 )  \n");
+fn two_lines(rt: &impl Print) -> io::Result<()> {
+    typed(rt, &["p0\np0\n", "AX p0\np0 -> AF p1\n"])
 }
 
-fn two_lines() {
-    typed(b"p0\np0\n");
-    typed(b"AX p0\np0 -> AF p1\n");
-}
-
-pub fn rows() {
-    names();
-    negations();
-    chains();
-    temporal_parts();
-    spaces();
-    two_lines();
+pub fn rows(rt: &impl Print) -> io::Result<()> {
+    names(rt)?;
+    negations(rt)?;
+    chains(rt)?;
+    temporal_parts(rt)?;
+    spaces(rt)?;
+    two_lines(rt)
 }

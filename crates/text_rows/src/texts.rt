@@ -1,107 +1,60 @@
 // The call on a text, and what it leaves. What is lent is 170 everywhere at first, so that a byte that was written shows; six bytes of it stand behind the blocks.
-ghost use Rattle.std.specs.Prelude.{◌<◌, ◌≤◌, length};
-
+use refusals::design_tests;
 use row_parts::{designs, lines, tables};
+use std::io;
 
-// A line of words.
-pub fn heading(words: &[u8]) {
-    io::write_all(1, words);
-    io::write_all(1, b"\n");
-}
-
-// The answer, with so many of the lent bytes: whether rules were made.
-pub fn answered(text: &[u8], lent: &mut [u8], room: usize) -> bool
-    requires { room ≤ length lent.old }
-{
-    let a = rules::rules(text, &mut lent[0..room]);
-    match a {
+// The answer: whether rules were made.
+pub fn answered(rt: &impl Print, text: &[u8], lent: &mut [u8]) -> io::Result<bool> {
+    match rules::rules(text, lent) {
         rules::Answer::Rules(n) => {
-            lines::line(b"  rules", n as u64);
-            true
+            lines::line(rt, "  rules", n as u64)?;
+            Ok(true)
         }
         rules::Answer::Refused(k) => {
-            lines::line(b"  refused", k as u64);
-            false
+            lines::line(rt, "  refused", u64::from(k))?;
+            Ok(false)
         }
     }
 }
 
 // ---- the blocks
 
-fn wide(n: u8) -> usize
-    ensures { result < 256 }
-{
-    n as usize
-}
-
 // How many formulas they have, and how many rules.
-pub fn formula_count(lent: &[u8; 1030]) -> usize
-    ensures { result < 256 }
-{
-    wide(lent[1])
+pub fn formula_count(lent: &[u8; 1030]) -> u8 {
+    lent[1]
 }
 
-pub fn rule_count(lent: &[u8; 1030]) -> usize
-    ensures { result < 256 }
-{
-    wide(lent[513])
+pub fn rule_count(lent: &[u8; 1030]) -> u8 {
+    lent[513]
 }
 
-pub fn formulas(lent: &[u8; 1030]) {
-    lines::line(b"  formulas", formula_count(lent) as u64);
-}
-
-// H, with no formula and no rule.
-fn handshake(d: &mut [u8; 2048]) {
-    let none = [0u8; 0];
-    designs::design(d, &tables::H_KERNEL, &tables::H_HOST, &none, &none);
-}
-
-// The blocks in the place of those of a design.
-fn put(lent: &[u8; 1030], d: &mut [u8; 2048]) {
-    layout::ranges::copy(lent, 0, d, 1024, 1024);
+pub fn formulas(rt: &impl Print, lent: &[u8; 1030]) -> io::Result<()> {
+    lines::line(rt, "  formulas", u64::from(formula_count(lent)))
 }
 
 // The design of the sides of H and the blocks.
-pub fn with_sides(lent: &[u8; 1030], d: &mut [u8; 2048]) {
-    handshake(d);
-    put(lent, d);
-}
-
-fn design_line(d: &[u8; 2048]) {
-    lines::line(
-        b"  behind H's sides",
-        refusals::design_tests::design_refusal(d) as u64,
-    );
-}
-
-pub fn behind_sides(lent: &[u8; 1030]) {
+pub fn with_sides(lent: &[u8; 1030]) -> [u8; 2048] {
     let mut d = [0u8; 2048];
-    with_sides(lent, &mut d);
-    design_line(&d);
+    designs::design(&mut d, &tables::H_KERNEL, &tables::H_HOST, &[], &[]);
+    d[1024..].copy_from_slice(&lent[..1024]);
+    d
+}
+
+pub fn behind_sides(rt: &impl Print, lent: &[u8; 1030]) -> io::Result<()> {
+    let refusal = design_tests::design_refusal(&with_sides(lent));
+    lines::line(rt, "  behind H's sides", u64::from(refusal))
 }
 
 // ---- bytes that aren't written
 
-fn same(a: &[u8; 1030], b: &[u8; 1030]) -> bool {
-    check::same(a, b)
+pub fn unchanged(rt: &impl Print, lent: &[u8; 1030]) -> io::Result<()> {
+    lines::yes_or_no(rt, "  lent bytes unchanged", *lent == [170; 1030])
 }
 
-pub fn unchanged(lent: &[u8; 1030]) {
-    let before = [170u8; 1030];
-    lines::yes_or_no(b"  lent bytes unchanged", same(&before, lent));
-}
-
-// Whether these bytes stand from `from` on.
-fn ends_with(lent: &[u8], from: usize, tail: &[u8]) -> bool
-    requires { from ≤ length lent.now }
-{
-    check::same(&lent[from..], tail)
-}
-
-pub fn unchanged_behind(lent: &[u8; 1030]) {
+pub fn unchanged_behind(rt: &impl Print, lent: &[u8; 1030]) -> io::Result<()> {
     lines::yes_or_no(
-        b"  bytes behind the blocks unchanged",
-        ends_with(lent, 1024, &[170u8; 6]),
-    );
+        rt,
+        "  bytes behind the blocks unchanged",
+        lent[1024..] == [170; 6],
+    )
 }
