@@ -1,7 +1,7 @@
 // Reads a design from standard input and writes the blocks of a converter for it to standard output; or one line, the word "refused" and the number.
 #![tactic(auto)]
 
-ghost use Rattle.std.specs.Prelude.{◌*◌, ◌≤◌, length};
+ghost use Rattle.std.specs.Prelude.{◌*◌, ◌≤◌, length, IfOk};
 ghost use Rattle.layout.specs.Sizes.{block_bytes};
 ghost use Rattle.layout.specs.Converters.{records};
 ghost use Rattle.files.specs.Files.{blocks_for};
@@ -11,6 +11,7 @@ use files::answers::Written;
 use files::writer;
 use layout::sizes;
 use search::Outcome;
+use std::io::{self, Read, Write};
 
 // The blocks of the converter that a search finds. So many blocks are lent as the records that the table holds may fill, so that the writer refuses nothing.
 fn convert(design: &[u8], table: &mut [u8], work: &mut [u8], blocks: &mut [u8]) -> Written
@@ -27,15 +28,9 @@ fn convert(design: &[u8], table: &mut [u8], work: &mut [u8], blocks: &mut [u8]) 
     }
 }
 
-// The line of a refusal.
-fn print_refusal(k: u8) {
-    io::write_all(1, b"refused ");
-    io::print_decimal(1, k as u64);
-    io::write_all(1, b"\n");
-}
-
-// What there is to say of a design: 1,152 records of table, 18,432 bytes of work, and 128 blocks, which hold that many records.
-fn answer(design: &[u8]) {
+// What there is to say of a design: 1,152 records of table, 18,432 bytes of work, and 128 blocks, which hold that many records. The arrays are what
+// docs/SPECIFICATION.md says of the program's memory.
+fn answer(rt: &impl Print, design: &[u8]) -> io::Result<()> {
     let mut table = [0u8; 59904];
     let mut work = [0u8; 18432];
     let mut blocks = [0u8; 65536];
@@ -43,15 +38,31 @@ fn answer(design: &[u8]) {
     match written {
         Written::Blocks(n) => {
             let size = sizes::BLOCK_BYTES * n;
-            io::write_all(1, &blocks[..size]);
+            io::writer(rt).write_all(&blocks[..size])
         }
-        Written::Refused(k) => print_refusal(k),
+        Written::Refused(k) => println!(rt; "refused {k}"),
     }
 }
 
+// Reads until the buffer is full or the input ends: how many bytes of the buffer were read.
+fn read_front(input: &mut impl Read, buf: &mut [u8]) -> io::Result<usize>
+    ensures { IfOk result (λ n. n ≤ length buf.new) }
+{
+    let mut n = 0;
+    // A while: a read may give fewer bytes than there is room for.
+    while n < buf.len() {
+        let more = input.read(&mut buf[n..])?;
+        if more == 0 {
+            break;
+        }
+        n += more;
+    }
+    Ok(n)
+}
+
 // A byte more than the longest design has is asked for, so that a longer input is seen to be one.
-fn main() {
+fn main(rt: HostRuntime) -> io::Result<()> {
     let mut design = [0u8; 2561];
-    let n = io::read_full(0, &mut design);
-    answer(&design[..n]);
+    let n = read_front(&mut rt.reader(), &mut design)?;
+    answer(&rt, &design[..n])
 }
