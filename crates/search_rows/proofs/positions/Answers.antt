@@ -3,5 +3,5 @@ use mathlib.Core.Path.{sym, ◌∙◌}
 use Rattle.refusals.proofs.WellFormed.{accepted_counts}
 use Rattle.search_rows.proofs.positions.Goals as goal
 
-pub positions_of-n-requires : goal.positions_of-n-requires
-positions_of-n-requires c = accepted_counts _ (sym c.design_refusal-refusal.ensures ∙ c.if-refusal-ne0.false)
+pub positions_of-requires : goal.positions_of-requires
+positions_of-requires g c = accepted_counts _ (sym c.design_refusal.ensures ∙ c.if-design_refusal-ne0.false)
