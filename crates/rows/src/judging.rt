@@ -97,42 +97,34 @@ fn in_step(rt: &impl Print, words: &str, formulas: &[u8], rules: &[u8]) -> io::R
 }
 
 // One record for three sides of one state each, without rules. The kernel ticks or sends 1, the third side sends 3 or ticks.
-fn one_record(
-    rt: &impl Print,
-    words: &str,
-    host: &[u8; 20],
-    converter: &[u8; 52],
-) -> io::Result<()> {
-    let mut d = [0u8; 2560];
-    designs::design_of_three(&mut d, &tables::SENDS_1, host, &tables::SENDS_3, &[], &[]);
-    judged(rt, words, &d, converter, 70, 16)
-}
-
 fn three_sides(rt: &impl Print) -> io::Result<()> {
-    one_record(
-        rt,
-        "two delayed and one input, a transition for each of four choices",
-        &tables::READS,
-        &tables::FOUR_CHOICES,
-    )?;
-    one_record(
-        rt,
-        "the same without the last",
-        &tables::READS,
-        &tables::THREE_CHOICES,
-    )?;
-    one_record(
-        rt,
-        "three delayed, all eight joint moves",
-        &tables::SENDS_2,
-        &tables::ALL_EIGHT,
-    )?;
-    one_record(
-        rt,
-        "the same without the last",
-        &tables::SENDS_2,
-        &tables::SEVEN,
-    )
+    for (words, host, converter) in [
+        (
+            "two delayed and one input, a transition for each of four choices",
+            &tables::READS,
+            &tables::FOUR_CHOICES,
+        ),
+        (
+            "the same without the last",
+            &tables::READS,
+            &tables::THREE_CHOICES,
+        ),
+        (
+            "three delayed, all eight joint moves",
+            &tables::SENDS_2,
+            &tables::ALL_EIGHT,
+        ),
+        (
+            "the same without the last",
+            &tables::SENDS_2,
+            &tables::SEVEN,
+        ),
+    ] {
+        let mut d = [0u8; 2560];
+        designs::design_of_three(&mut d, &tables::SENDS_1, host, &tables::SENDS_3, &[], &[]);
+        judged(rt, words, &d, converter, 70, 16)?;
+    }
+    Ok(())
 }
 
 // A design that 9 keeps from the search is judged.

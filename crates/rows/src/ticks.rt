@@ -41,34 +41,30 @@ fn tick(
 }
 
 pub fn rows(rt: &impl Print) -> io::Result<()> {
-    tick(
-        rt,
-        "F at record 1, shown -2 and 0",
-        &tables::F,
-        1,
-        (-2, 0, 0),
-    )?;
-    tick(
-        rt,
-        "F at record 0, shown -2 and 0",
-        &tables::F,
-        0,
-        (-2, 0, 0),
-    )?;
-    tick(rt, "F at record 3, shown 0 and 0", &tables::F, 3, (0, 0, 0))?;
-    tick(rt, "F at record 0, shown 1 and 0", &tables::F, 0, (1, 0, 0))?;
-    tick(
-        rt,
-        "F at record 1, shown -2 and 0, and -1 by the third side",
-        &tables::F,
-        1,
-        (-2, 0, -1),
-    )?;
-    tick(
-        rt,
-        "eight joint moves, shown -1, 0 and -3",
-        &tables::ALL_EIGHT,
-        0,
-        (-1, 0, -3),
-    )
+    for (words, converter, record, shown) in [
+        (
+            "F at record 1, shown -2 and 0",
+            &tables::F[..],
+            1,
+            (-2, 0, 0),
+        ),
+        ("F at record 0, shown -2 and 0", &tables::F, 0, (-2, 0, 0)),
+        ("F at record 3, shown 0 and 0", &tables::F, 3, (0, 0, 0)),
+        ("F at record 0, shown 1 and 0", &tables::F, 0, (1, 0, 0)),
+        (
+            "F at record 1, shown -2 and 0, and -1 by the third side",
+            &tables::F,
+            1,
+            (-2, 0, -1),
+        ),
+        (
+            "eight joint moves, shown -1, 0 and -3",
+            &tables::ALL_EIGHT,
+            0,
+            (-1, 0, -3),
+        ),
+    ] {
+        tick(rt, words, converter, record, shown)?;
+    }
+    Ok(())
 }
