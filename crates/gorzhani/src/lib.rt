@@ -2,27 +2,28 @@
 // call below it, and its answer is a number: -k for a refusal k, a count, or 0 for "yes" and "done". specs/Calls says what each promises.
 #![tactic(auto)]
 
-ghost use Rattle.std.specs.Prelude.{◌≡◌, [], ◌∷◌, ◌≤◌, pos};
+ghost use Rattle.std.specs.Prelude.{◌≡◌, [], ◌∷◌, ◌≤◌, pos, IfOk};
 ghost use Rattle.layout.specs.Sizes.{most_records};
-ghost use Rattle.gorzhani.specs.Codes.{refusal_code, tick_code};
-ghost use Rattle.gorzhani.specs.Calls.{positions_refusal, positions_number, SearchCall, JudgeCall, VerdictCall, WriteCall, ReadCall, TickCall, RangesCall, RulesCall};
+ghost use Rattle.refusals.specs.Answered.{number, answered};
+ghost use Rattle.gorzhani.specs.Codes.{refusal_code, count_code, done_code};
+ghost use Rattle.gorzhani.specs.Calls.{positions_number, SearchCall, JudgeCall, VerdictCall, WriteCall, ReadCall, TickCall, RangesCall, RulesCall};
 
-use files::answers::{Read, Written};
 use files::{reader, writer};
-use judge::{Verdict, quick};
+use judge::quick;
+use judge::quick::Outcome;
 use layout::sizes;
 use refusals::design_tests;
-use runner::{Answer, Runner};
-use search::Outcome;
+use refusals::refusal::Refusal;
+use runner::Runner;
 
 // A refusal's number, negated.
-fn refused(k: u8) -> i32
-    ensures { result ≡ refusal_code k }
+fn refused(refusal: Refusal) -> i32
+    ensures { result ≡ refusal_code (number refusal) }
 {
-    -(k as i32)
+    -i32::from(refusal.number())
 }
 
-// A count of records, of blocks or of positions.
+// A count of records, of blocks, of rules or of positions.
 fn counted(n: usize) -> i32
     requires { n ≤ most_records }
     ensures { result ≡ pos n }
@@ -30,19 +31,38 @@ fn counted(n: usize) -> i32
     n as i32
 }
 
-// The first of 1 to 9 that refuses a design, and 0 where none does.
-fn positions_refusal(design: &[u8]) -> u8
-    ensures { result ≡ positions_refusal design.now }
+// The number of an answer that is a count.
+fn count_code(answer: Result<usize, Refusal>) -> i32
+    requires { IfOk answer (λ n. n ≤ most_records) }
+    ensures { result ≡ count_code (answered answer) }
 {
-    let refusal = design_tests::design_refusal(design);
-    if refusal != 0 {
-        return refusal;
+    match answer {
+        Ok(n) => counted(n),
+        Err(refusal) => refused(refusal),
     }
+}
+
+// The number of an answer that is no more than "yes" or "done".
+fn done_code(answer: Result<(), Refusal>) -> i32
+    ensures { result ≡ done_code (answered answer) }
+{
+    match answer {
+        Ok(()) => 0,
+        Err(refusal) => refused(refusal),
+    }
+}
+
+// The positions of a design that none of 1 to 9 refuses.
+fn all_positions(design: &[u8]) -> Result<usize, Refusal>
+    ensures few { IfOk result (λ n. n ≤ most_records) }
+    ensures number { count_code (answered result) ≡ positions_number design.now }
+{
+    design_tests::design_refusal(design)?;
     let n = positions::positions_of(design);
     if sizes::MOST_POSITIONS < n {
-        return 9;
+        return Err(Refusal::Positions);
     }
-    0
+    Ok(n)
 }
 
 // The positions of a design, for each of which a search is lent table and work.
@@ -50,11 +70,7 @@ fn positions_refusal(design: &[u8]) -> u8
 pub extern "C" fn gorzhani_positions(design: &[u8]) -> i32
     ensures { result ≡ positions_number design.now }
 {
-    let refusal = positions_refusal(design);
-    if refusal != 0 {
-        return refused(refusal);
-    }
-    counted(positions::positions_of(design))
+    count_code(all_positions(design))
 }
 
 // The search: the count of records.
@@ -62,10 +78,9 @@ pub extern "C" fn gorzhani_positions(design: &[u8]) -> i32
 pub extern "C" fn gorzhani_search(design: &[u8], table: &mut [u8], work: &mut [u8]) -> i32
     ensures { SearchCall design.now table.old work.old result table.new work.new }
 {
-    let answer = search::search(design, table, work);
-    match answer {
-        Outcome::Found(n) => counted(n as usize),
-        Outcome::Refused(k) => refused(k),
+    match search::search(design, table, work) {
+        Ok(n) => counted(n as usize),
+        Err(refusal) => refused(refusal),
     }
 }
 
@@ -79,11 +94,7 @@ pub extern "C" fn gorzhani_judge(
 ) -> i32
     ensures { JudgeCall design.now converter.now work.old waits.old result work.new waits.new }
 {
-    let answer = judge::judge(design, converter, work, waits);
-    match answer {
-        Verdict::Yes => 0,
-        Verdict::Refused(k) => refused(k),
-    }
+    done_code(judge::judge(design, converter, work, waits))
 }
 
 // The quick verdict: 0 for a yes; with -15 alone the place of the first rule that fails is written.
@@ -96,14 +107,13 @@ pub extern "C" fn gorzhani_verdict(
 ) -> i32
     ensures { VerdictCall design.now converter.now work.old rule.old result work.new rule.new }
 {
-    let answer = quick::verdict(design, converter, work);
-    match answer {
-        quick::Outcome::Yes => 0,
-        quick::Outcome::Fails(k) => {
+    match quick::verdict(design, converter, work) {
+        Ok(Outcome::Yes) => 0,
+        Ok(Outcome::Fails(k)) => {
             *rule = k;
-            refused(15)
+            refused(Refusal::RuleFails)
         }
-        quick::Outcome::Refused(k) => refused(k),
+        Err(refusal) => refused(refusal),
     }
 }
 
@@ -112,11 +122,7 @@ pub extern "C" fn gorzhani_verdict(
 pub extern "C" fn gorzhani_write(converter: &[u8], blocks: &mut [u8]) -> i32
     ensures { WriteCall converter.now blocks.old result blocks.new }
 {
-    let answer = writer::write(converter, blocks);
-    match answer {
-        Written::Blocks(n) => counted(n),
-        Written::Refused(k) => refused(k),
-    }
+    count_code(writer::write(converter, blocks))
 }
 
 // The block reader: the count of records.
@@ -124,21 +130,7 @@ pub extern "C" fn gorzhani_write(converter: &[u8], blocks: &mut [u8]) -> i32
 pub extern "C" fn gorzhani_read(blocks: &[u8], converter: &mut [u8]) -> i32
     ensures { ReadCall blocks.now converter.old result converter.new }
 {
-    let answer = reader::read(blocks, converter);
-    match answer {
-        Read::Records(n) => counted(n),
-        Read::Refused(k) => refused(k),
-    }
-}
-
-// The number of a tick's answer.
-fn tick_code(answer: Answer) -> i32
-    ensures { result ≡ tick_code answer }
-{
-    match answer {
-        Answer::Done => 0,
-        Answer::Refused(k) => refused(k),
-    }
+    count_code(reader::read(blocks, converter))
 }
 
 // One tick: 0 where it is done.
@@ -152,7 +144,7 @@ pub extern "C" fn gorzhani_tick(
 ) -> i32
     ensures { TickCall converter.now runner.old (first ∷ second ∷ third ∷ []) result runner.new }
 {
-    tick_code(runner::tick(converter, runner, first, second, third))
+    done_code(runner::tick(converter, runner, first, second, third))
 }
 
 // Waits known by range: 0 where the new design is written.
@@ -160,11 +152,7 @@ pub extern "C" fn gorzhani_tick(
 pub extern "C" fn gorzhani_ranges(design: &[u8], entries: &[u8], res: &mut [u8]) -> i32
     ensures { RangesCall design.now entries.now res.old result res.new }
 {
-    let answer = ranges::ranges(design, entries, res);
-    match answer {
-        ranges::Answer::Done => 0,
-        ranges::Answer::Refused(k) => refused(k),
-    }
+    done_code(ranges::ranges(design, entries, res))
 }
 
 // Rules as people type them: the count of rules, whose blocks are written.
@@ -172,9 +160,5 @@ pub extern "C" fn gorzhani_ranges(design: &[u8], entries: &[u8], res: &mut [u8])
 pub extern "C" fn gorzhani_rules(text: &[u8], blocks: &mut [u8]) -> i32
     ensures { RulesCall text.now blocks.old result blocks.new }
 {
-    let answer = rules::rules(text, blocks);
-    match answer {
-        rules::Answer::Rules(n) => counted(n),
-        rules::Answer::Refused(k) => refused(k),
-    }
+    count_code(rules::rules(text, blocks))
 }
