@@ -1,7 +1,7 @@
 -- Parts of a list of bytes (`part`), by one byte more, by index and within another, and what is added up over one.
-use Rattle.std.proofs.Common.{◌≡◌, ℕ, ◌+◌, ◌-◌, ◌%◌, ◌<◌, ◌≤◌, true, false, eqb, List, [], ◌∷◌, ◌++◌, length, take, drop, sym, ap, ◌∙◌, add_assoc, add-one, arith, length-drop, length-take-le, get_or-drop, get_or-take, take-suc, ext_get_or, eq-eqb, ne_eqb, eqb-true}
+use Rattle.std.proofs.Common.{◌≡◌, ℕ, ◌+◌, ◌-◌, ◌%◌, ◌<◌, ◌≤◌, true, eqb, List, [], ◌∷◌, ◌++◌, length, take, drop, sym, ap, ◌∙◌, add_assoc, add-one, arith, length-drop, length-take-le, get_or-drop, get_or-take, take-suc, ext_get_or, eq-eqb, eqb-true}
 use Rattle.layout.specs.Bytes.{byte, part, all_zero, sum, check}
-use Rattle.layout.proofs.Tables.{all_true, all_false, all_at}
+use Rattle.layout.proofs.Tables.{all_true, all_at}
 
 module _ (bs : List ℕ) (at : ℕ) where
   pub length_part : (n : ℕ) → at + n ≤ length bs → length (part bs at n) ≡ n

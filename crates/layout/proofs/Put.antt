@@ -1,12 +1,10 @@
 -- Bytes put in the place of others (`put`): by single stores, one piece behind another, one over another, and read again.
-use Rattle.std.proofs.Common.{◌≡◌, ℕ, ◌+◌, ◌-◌, ◌<◌, ◌≤◌, List, [], ◌∷◌, ◌++◌, length, take, drop, set, replicate, sym, refl, ap, ◌∙◌, subst, ap₂, append_assoc, add_assoc, add-one, arith, length-append, length-take-le, drop-drop, take_at, drop_at}
+use Rattle.std.proofs.Common.{◌≡◌, ℕ, ◌+◌, ◌-◌, ◌<◌, ◌≤◌, List, [], ◌∷◌, ◌++◌, length, take, drop, set, sym, refl, ap, ◌∙◌, subst, ap₂, append_assoc, add_assoc, add-one, arith, length-append, length-take-le, drop-drop, take_at, drop_at}
 use borrow.Rule.Slice.PartMut.{put_mid}
-use lib.ListN.{length-replicate, replicate-append-replicate}
 use lib.Seq.{sets, sets-eq, length-sets, take-append-le, drop-append-le, take-append-add, drop-append-add}
 use Rattle.layout.specs.Tables.{table}
-use Rattle.layout.specs.Bytes.{byte, part, put}
+use Rattle.layout.specs.Bytes.{put}
 use Rattle.layout.proofs.Tables.{length_table}
-use Rattle.layout.proofs.Parts.{length_part, part_more}
 use Rattle.layout.proofs.Pieces.{table_more}
 
 -- a run of stores

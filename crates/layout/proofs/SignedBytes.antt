@@ -1,13 +1,10 @@
 -- Signed bytes: an event has the bits of its byte, and is read back from it.
-use Rattle.std.proofs.Common.{◌≡◌, ℕ, zero, suc, ◌-◌, ◌<◌, ◌≤◌, Bool, true, false, cond, eqb, ltb, leb, ℤ, pos, negsuc, ◌-ℤ◌, neg_ℤ, nat_abs, sym, refl, ap, ◌∙◌, true≢false, arith, w8, SFits, to_z, of_z, ltb-false, ltb-true, le-ltb, lt-ltb, eq-eqb, ne_eqb, le-leb}
-use mathlib.Core.Bool.{false≢true}
-use native.Mathlib.Decide.{ℕ_discrete, dec_lt}
-use borrow.Author.Tests.{lt-leb}
-use lib.Dec.{leb-zero}
+use Rattle.std.proofs.Common.{◌≡◌, ℕ, ◌-◌, ◌<◌, Bool, cond, ltb, ℤ, pos, negsuc, ◌-ℤ◌, neg_ℤ, refl, ap, ◌∙◌, arith, w8, to_z, of_z, le-ltb, lt-ltb}
+use native.Mathlib.Decide.{dec_lt}
 use lib.IntN.{+ℤ_idl}
-use lib.Signed.{mag, lt_z, le_z}
+use lib.Signed.{mag}
 use mir.ValLaws.{to_z-of_z}
-use Rattle.model.specs.Events.{Event, InRange, sent, same_event}
+use Rattle.model.specs.Events.{Event, InRange}
 use Rattle.layout.specs.Bytes.{event_of, event_byte}
 
 -- the machine reads a number back from its bits

@@ -1,14 +1,8 @@
 -- `blocks::write_header` meets its contract: two stores and a word, one behind the other.
-use Rattle.std.proofs.Common.{◌+◌, [], ◌∷◌, refl, ap, ◌∙◌, arith, length-set}
+use Rattle.std.proofs.Common.{◌+◌, [], ◌∷◌, refl, ap, ◌∙◌, arith}
 use Rattle.layout.specs.Bytes.{put, word_bytes}
 use Rattle.layout.proofs.Put.{put_pair, put_behind}
 use Rattle.layout.proofs.blocks.write_header.Goals as goal
-
-pub bounds-s-at-2 : goal.bounds-s-at-2
-bounds-s-at-2 c = simp length-set (omega arith)
-
-pub write_word-requires : goal.write_word-requires
-write_word-requires c = simp length-set (omega arith)
 
 pub returns : goal.returns
 returns c =

@@ -1,15 +1,9 @@
 -- `designs::rule_count` meets its contract.
-use Rattle.std.proofs.Common.{◌+◌, sym, ap, ◌∙◌, arith}
+use Rattle.std.proofs.Common.{◌+◌, sym, ap, ◌∙◌}
 use Rattle.layout.specs.Sizes.{count_in_block}
 use Rattle.layout.specs.Bytes.{byte}
 use Rattle.layout.proofs.DesignBytes.{rules_length}
 use Rattle.layout.proofs.designs.rule_count.Goals as goal
-
-pub overflow_add-rules_at : goal.overflow_add-rules_at
-overflow_add-rules_at c = omega (arith, c.rules_at.ensures, c.requires.enough, c.requires.at_most, c.requires.long)
-
-pub read_byte-requires : goal.read_byte-requires
-read_byte-requires c = omega (arith, c.rules_at.ensures, c.requires.enough, c.requires.at_most, c.requires.long)
 
 pub returns : goal.returns
 returns c =

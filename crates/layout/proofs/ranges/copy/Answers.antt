@@ -1,5 +1,5 @@
 -- `ranges::copy` meets its contract.
-use Rattle.std.proofs.Common.{◌∙◌, arith}
+use Rattle.std.proofs.Common.{◌∙◌}
 use Rattle.layout.specs.Bytes.{part}
 use Rattle.layout.proofs.Parts.{length_part, part_range}
 use Rattle.layout.proofs.Put.{put_stored}

@@ -1,5 +1,5 @@
 -- `ranges::fill` meets its contract.
-use Rattle.std.proofs.Common.{◌-◌, ◌+◌, length, drop, replicate, ap, ◌∙◌, arith, length-drop, length-take-le}
+use Rattle.std.proofs.Common.{length, replicate, ap, ◌∙◌}
 use lib.ListN.{length-replicate}
 use Rattle.layout.proofs.Parts.{length_part, part_range}
 use Rattle.layout.proofs.Put.{put_stored}

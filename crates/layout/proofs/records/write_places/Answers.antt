@@ -1,12 +1,12 @@
 -- `records::write_places` meets its contract. The invariant: k places are put.
-use Rattle.std.proofs.Common.{◌≡◌, ◌+◌, ◌*◌, length, get_or, sym, ap, ◌∙◌, arith, rules}
+use Rattle.std.proofs.Common.{◌≡◌, ◌+◌, ◌*◌, get_or, sym, ap, ◌∙◌, arith}
 use mathlib.Core.List.{flatten}
 use Rattle.layout.specs.Sizes.{place_count, transition_bytes}
 use Rattle.layout.specs.Tables.{table, table_from}
 use Rattle.layout.specs.Bytes.{put}
 use Rattle.layout.specs.Records.{no_transition, places_to}
 use Rattle.layout.proofs.Pieces.{pieces_more}
-use Rattle.layout.proofs.Put.{put_behind, put_nil, length_put}
+use Rattle.layout.proofs.Put.{put_behind, put_nil}
 use Rattle.layout.proofs.RecordBytes.{place_to, first_places_to, length_transition, length_first_places}
 use Rattle.layout.proofs.records.write_places.Goals as goal
 
@@ -21,7 +21,7 @@ loop-k-preserved c =
     c.write_transition.ensures
     ∙ ap (λ x. put x (a.at + transition_bytes * l.k) (place_to a.r l.k)) l.invariant
     ∙ put_behind (first_places_to a.r l.k) (place_to a.r l.k) a.s.now a.at (transition_bytes * l.k) (length_first_places a.r l.k)
-          (omega (arith, c.requires, length_transition (get_or a.r.places l.k no_transition)))
+    (omega (arith, c.requires, length_transition (get_or a.r.places l.k no_transition)))
     ∙ ap (λ x. put a.s.now a.at x) (sym (pieces_more (place_to a.r) l.k))
 
 pub returns : goal.returns

@@ -1,14 +1,11 @@
 -- `records::write_transition` meets its contract: the events, a zero, and the next record.
-use Rattle.std.proofs.Common.{◌+◌, [], ◌∷◌, ◌++◌, set, ap, ◌∙◌, append_assoc, arith, length-append, length-set, rules}
+use Rattle.std.proofs.Common.{◌+◌, [], ◌∷◌, ◌++◌, set, ap, ◌∙◌, append_assoc, arith, length-append}
 use Rattle.layout.specs.Sizes.{side_count, next_at}
 use Rattle.layout.specs.Bytes.{put, word_bytes}
 use Rattle.layout.specs.Records.{events_to}
 use Rattle.layout.proofs.Put.{put_next, put_behind}
 use Rattle.layout.proofs.RecordBytes.{length_events}
 use Rattle.layout.proofs.records.write_transition.Goals as goal
-
-pub write_word-requires : goal.write_word-requires
-write_word-requires c = simp length-set (search rules)
 
 pub returns : goal.returns
 returns c =

@@ -1,12 +1,12 @@
 -- `states::write_places` meets its contract. The invariant: k places are put.
-use Rattle.std.proofs.Common.{◌≡◌, ◌+◌, ◌*◌, length, sym, ap, ◌∙◌, ap₂, arith, rules}
+use Rattle.std.proofs.Common.{◌≡◌, ◌+◌, ◌*◌, sym, ap, ◌∙◌, ap₂, arith}
 use mathlib.Core.List.{flatten}
 use Rattle.layout.specs.Sizes.{place_count, move_bytes}
 use Rattle.layout.specs.Tables.{table, table_from}
 use Rattle.layout.specs.Bytes.{put}
 use Rattle.layout.specs.States.{state_of, move_to, moves_to}
 use Rattle.layout.proofs.Pieces.{pieces_more}
-use Rattle.layout.proofs.Put.{put_behind, put_nil, length_put}
+use Rattle.layout.proofs.Put.{put_behind, put_nil}
 use Rattle.layout.proofs.StateBytes.{nth_move_to, first_moves_to, length_first_moves}
 use Rattle.layout.proofs.states.write_places.Goals as goal
 

@@ -1,5 +1,5 @@
 -- `states::write_state` meets its contract: the label, the count and a zero, and behind them the places.
-use Rattle.std.proofs.Common.{◌+◌, [], ◌∷◌, ◌++◌, set, sym, refl, ap, ◌∙◌, arith, length-set, rules}
+use Rattle.std.proofs.Common.{◌+◌, [], ◌∷◌, ◌++◌, set, sym, refl, ap, ◌∙◌, arith}
 use Rattle.layout.specs.Sizes.{count_at, gap_at, places_at}
 use Rattle.layout.specs.Bytes.{put, word_bytes}
 use Rattle.layout.specs.States.{state_of, moves_to, state_to}
@@ -7,12 +7,6 @@ use Rattle.layout.proofs.Put.{put_next, put_behind}
 use Rattle.layout.proofs.RecordMoves.{moves_length}
 use Rattle.layout.proofs.StateBytes.{length_moves}
 use Rattle.layout.proofs.states.write_state.Goals as goal
-
-pub bounds-s-at-2 : goal.bounds-s-at-2
-bounds-s-at-2 c = simp length-set (search rules)
-
-pub write_places-requires : goal.write_places-requires
-write_places-requires c = simp length-set (search rules)
 
 pub returns : goal.returns
 unfolding state_to state_of
