@@ -5,9 +5,9 @@ use mathlib.Core.List.{List}
 use Prim.Native.Nat.{ℕ, ◌+◌, ◌*◌, ◌≤◌}
 use native.Mathlib.Omega.{arith}
 use lib.ListN.{length, take}
+use Rattle.std.specs.Prelude.{Result, Ok}
+use Rattle.refusals.specs.declared.refusal.Refusal.{Refusal}
 use Rattle.model.specs.Designs.{Works}
-use Rattle.files.specs.declared.answers.Written.{Written}
-use Rattle.files.specs.declared.answers.Written.TheVariants.{Blocks}
 use Rattle.layout.specs.Sizes.{record_bytes, block_bytes}
 use Rattle.layout.specs.Bytes.{put}
 use Rattle.layout.specs.Designs.{design}
@@ -23,8 +23,8 @@ use Rattle.search.proofs.Answers.{found_in}
 use Rattle.convert.specs.Convert.{convert_blocks, Converts}
 use Rattle.convert.proofs.Converting.{found_then, blocks_fit}
 
-module _ (ds table work bs table' work' : List ℕ) (same : length table' ≡ length table) (room : block_bytes * blocks_for (records table) ≤ length bs) (bs' : List ℕ) (m : ℕ) (x : Written)
-    (C : Converts ds table work bs x table' work' bs') (b : x ≡ Blocks m) where
+module _ (ds table work bs table' work' : List ℕ) (same : length table' ≡ length table) (room : block_bytes * blocks_for (records table) ≤ length bs) (bs' : List ℕ) (m : ℕ) (x : Result ℕ Refusal)
+    (C : Converts ds table work bs x table' work' bs') (b : x ≡ Ok m) where
   -- the m blocks
   abbrev file : List ℕ
   file = take (block_bytes * m) bs'

@@ -4,8 +4,8 @@ use mathlib.Core.List.{List}
 use Prim.Native.Nat.{ℕ, ◌*◌, ◌≤◌}
 use native.Mathlib.Omega.{arith}
 use lib.ListN.{length, take}
-use Rattle.files.specs.declared.answers.Written.{Written}
-use Rattle.files.specs.declared.answers.Written.TheVariants as written_as
+use Rattle.std.specs.Prelude.{Result, Ok, Err}
+use Rattle.refusals.specs.declared.refusal.Refusal.{Refusal}
 use Rattle.layout.specs.Sizes.{record_bytes, block_bytes}
 use Rattle.layout.specs.Converters.{records}
 use Rattle.files.specs.Files.{blocks_for}
@@ -13,15 +13,13 @@ use Rattle.files.specs.FileRefusals.{write_refusal}
 use Rattle.files.specs.Answers.{Writes}
 use Rattle.files.proofs.AcceptedWrites.{write_accepts}
 use Rattle.files.proofs.Outcomes.{write_does}
-use Rattle.search.specs.declared.Outcome.{Outcome}
-use Rattle.search.specs.declared.Outcome.TheVariants.{Found, Refused}
 use Rattle.search.specs.Search.{Searches}
 use Rattle.search.proofs.Answers.{found_in}
 use Rattle.convert.specs.Convert.{convert_answer, convert_blocks, Converts}
 
 module _ (ds table work bs table' work' : List ℕ) (same : length table' ≡ length table) (room : block_bytes * blocks_for (records table) ≤ length bs) where
-  module _ (a : Outcome) (S : Searches ds table work a table' work') where
-    module _ (n : ℕ) (e : a ≡ Found n) where
+  module _ (a : Result ℕ Refusal) (S : Searches ds table work a table' work') where
+    module _ (n : ℕ) (e : a ≡ Ok n) where
       pub few_blocks : block_bytes * blocks_for n ≤ length bs
       few_blocks = omega (arith, (found_in ds table work a table' work' S n e).fits)
 
@@ -30,32 +28,32 @@ module _ (ds table work bs table' work' : List ℕ) (same : length table' ≡ le
           let f = found_in ds table work a table' work' S n e in
           write_accepts (take (record_bytes * n) table') (length bs) f.right (omega (arith, f.counts, few_blocks))
 
-      pub found_converts : (bs' : List ℕ) (x : Written) → Writes (take (record_bytes * n) table') bs bs' x → Converts ds table work bs x table' work' bs'
+      pub found_converts : (bs' : List ℕ) (x : Result ℕ Refusal) → Writes (take (record_bytes * n) table') bs bs' x → Converts ds table work bs x table' work' bs'
       found_converts bs' x d =
           let w = write_does (take (record_bytes * n) table') bs bs' x d nothing_refused in
           record {
             outcome = a;
             searched = S;
-            answers = w.0 ∙ ap (λ m. written_as.Blocks (blocks_for m)) (found_in ds table work a table' work' S n e).counts ∙ sym (ap convert_answer e);
+            answers = w.0 ∙ ap (λ m. Ok (blocks_for m)) (found_in ds table work a table' work' S n e).counts ∙ sym (ap convert_answer e);
             leaves = w.1 ∙ sym (ap (λ o. convert_blocks o table' bs) e);
           }
 
-    pub refused_converts : (k : ℕ) → a ≡ Refused k → Converts ds table work bs (written_as.Refused k) table' work' bs
-    refused_converts k e =
+    pub refused_converts : (d : Refusal) → a ≡ Err d → Converts ds table work bs (Err d) table' work' bs
+    refused_converts d e =
         record { outcome = a; searched = S; answers = sym (ap convert_answer e); leaves = sym (ap (λ o. convert_blocks o table' bs) e) }
 
   -- an answer with a count of blocks is a converter found
-  module _ (bs' : List ℕ) (m : ℕ) (x : Written) (C : Converts ds table work bs x table' work' bs') (b : x ≡ written_as.Blocks m) where
-    pub found_then : (n : ℕ) × ((C.outcome ≡ Found n) × (m ≡ blocks_for n))
+  module _ (bs' : List ℕ) (m : ℕ) (x : Result ℕ Refusal) (C : Converts ds table work bs x table' work' bs') (b : x ≡ Ok m) where
+    pub found_then : (n : ℕ) × ((C.outcome ≡ Ok n) × (m ≡ blocks_for n))
     found_then = by C.outcome refl
       where
-        by : (o : Outcome) → C.outcome ≡ o → (n : ℕ) × ((C.outcome ≡ Found n) × (m ≡ blocks_for n))
-        by (Found n) q =
-            let p : written_as.Blocks m ≡ written_as.Blocks (blocks_for n) = sym b ∙ C.answers ∙ ap convert_answer q in
+        by : (o : Result ℕ Refusal) → C.outcome ≡ o → (n : ℕ) × ((C.outcome ≡ Ok n) × (m ≡ blocks_for n))
+        by (Ok n) q =
+            let p : ◌≡◌ {A = Result ℕ Refusal} (Ok m) (Ok (blocks_for n)) = sym b ∙ C.answers ∙ ap convert_answer q in
             let d : m ≡ blocks_for n = cc in
             (n, (q, d))
-        by (Refused k) q =
-            let p : written_as.Blocks m ≡ written_as.Refused k = sym b ∙ C.answers ∙ ap convert_answer q in
+        by (Err d) q =
+            let p : ◌≡◌ {A = Result ℕ Refusal} (Ok m) (Err d) = sym b ∙ C.answers ∙ ap convert_answer q in
             let z : ◌≡◌ {A = ℕ} 0 1 = cc in
             absurd (omega arith)
 

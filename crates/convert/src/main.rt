@@ -7,25 +7,24 @@ ghost use Rattle.layout.specs.Converters.{records};
 ghost use Rattle.files.specs.Files.{blocks_for};
 ghost use Rattle.convert.specs.Convert.{Converts};
 
-use files::answers::Written;
 use files::writer;
 use layout::sizes;
-use search::Outcome;
+use refusals::refusal::Refusal;
 use std::io::{self, Read, Write};
 
 // The blocks of the converter that a search finds. So many blocks are lent as the records that the table holds may fill, so that the writer refuses nothing.
-fn convert(design: &[u8], table: &mut [u8], work: &mut [u8], blocks: &mut [u8]) -> Written
+fn convert(
+    design: &[u8],
+    table: &mut [u8],
+    work: &mut [u8],
+    blocks: &mut [u8],
+) -> Result<usize, Refusal>
     requires { block_bytes * blocks_for (records table.old) ≤ length blocks.old }
     ensures { Converts design.now table.old work.old blocks.old result table.new work.new blocks.new }
 {
-    let outcome = search::search(design, table, work);
-    match outcome {
-        Outcome::Found(n) => {
-            let size = sizes::RECORD_BYTES * (n as usize);
-            writer::write(&table[..size], blocks)
-        }
-        Outcome::Refused(k) => Written::Refused(k),
-    }
+    let n = search::search(design, table, work)?;
+    let size = sizes::RECORD_BYTES * (n as usize);
+    writer::write(&table[..size], blocks)
 }
 
 // What there is to say of a design: 1,152 records of table, 18,432 bytes of work, and 128 blocks, which hold that many records. The arrays are what
@@ -34,13 +33,12 @@ fn answer(rt: &impl Print, design: &[u8]) -> io::Result<()> {
     let mut table = [0u8; 59904];
     let mut work = [0u8; 18432];
     let mut blocks = [0u8; 65536];
-    let written = convert(design, &mut table, &mut work, &mut blocks);
-    match written {
-        Written::Blocks(n) => {
+    match convert(design, &mut table, &mut work, &mut blocks) {
+        Ok(n) => {
             let size = sizes::BLOCK_BYTES * n;
             io::writer(rt).write_all(&blocks[..size])
         }
-        Written::Refused(k) => println!(rt; "refused {k}"),
+        Err(refusal) => println!(rt; "refused {}", refusal.number()),
     }
 }
 

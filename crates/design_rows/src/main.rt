@@ -20,7 +20,7 @@ fn check(rt: &impl Print) -> io::Result<()> {
 
 // These bytes, read as a design.
 fn read(rt: &impl Print, words: &str, d: &[u8]) -> io::Result<()> {
-    lines::line(rt, words, u64::from(design_tests::design_refusal(d)))
+    lines::line(rt, words, lines::number(design_tests::design_refusal(d)))
 }
 
 // So many zeros.

@@ -7,10 +7,7 @@ use std::io;
 
 // The answer of the call as a number.
 fn answer(d: &[u8], list: &[u8], lent: &mut [u8]) -> u64 {
-    match ranges::ranges(d, list, lent) {
-        ranges::Answer::Done => 0,
-        ranges::Answer::Refused(k) => u64::from(k),
-    }
+    lines::number(ranges::ranges(d, list, lent))
 }
 
 // ---- lists that are carried out

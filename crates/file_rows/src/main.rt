@@ -4,7 +4,6 @@
 
 ghost use Rattle.std.specs.Prelude.{◌<◌, ◌≤◌, length};
 
-use files::answers::{Read, Written};
 use layout::{blocks, sizes};
 use row_parts::{lines, tables};
 use std::io;
@@ -13,15 +12,15 @@ use std::io;
 
 fn write_front(converter: &[u8], lent: &mut [u8]) -> u64 {
     match files::writer::write(converter, lent) {
-        Written::Blocks(n) => n as u64,
-        Written::Refused(k) => u64::from(k),
+        Ok(n) => n as u64,
+        Err(refusal) => u64::from(refusal.number()),
     }
 }
 
 fn read_front(file: &[u8], lent: &mut [u8]) -> u64 {
     match files::reader::read(file, lent) {
-        Read::Records(n) => n as u64,
-        Read::Refused(k) => u64::from(k),
+        Ok(n) => n as u64,
+        Err(refusal) => u64::from(refusal.number()),
     }
 }
 

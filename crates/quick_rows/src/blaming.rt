@@ -3,6 +3,7 @@ ghost use Rattle.std.specs.Prelude.{◌≤◌, length};
 ghost use Rattle.layout.specs.Sizes.{most_rules};
 
 use judge::quick;
+use refusals::refusal::Refusal;
 use row_parts::{designs, lines, tables};
 use std::io;
 
@@ -15,11 +16,11 @@ const FORK_FIRST: [u8; 104] = *b"\
 const SIXTEEN: [u8; 16] = [26, 17, 8, 8, 26, 35, 8, 17, 26, 35, 8, 8, 17, 17, 26, 35];
 
 // An answer as two numbers: the call's, and the place.
-fn numbers(a: quick::Outcome) -> (u64, u64) {
+fn numbers(a: Result<quick::Outcome, Refusal>) -> (u64, u64) {
     match a {
-        quick::Outcome::Yes => (0, 99),
-        quick::Outcome::Fails(k) => (15, u64::from(k)),
-        quick::Outcome::Refused(k) => (u64::from(k), 99),
+        Ok(quick::Outcome::Yes) => (0, 99),
+        Ok(quick::Outcome::Fails(k)) => (15, u64::from(k)),
+        Err(refusal) => (u64::from(refusal.number()), 99),
     }
 }
 

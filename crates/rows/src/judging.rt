@@ -8,10 +8,7 @@ use std::io;
 // The judge's answer as a number.
 fn answer(d: &[u8], converter: &[u8], lent: &mut [u8]) -> u64 {
     let mut waits = [7u32; 16];
-    match judge::judge(d, converter, lent, &mut waits) {
-        judge::Verdict::Yes => 0,
-        judge::Verdict::Refused(k) => u64::from(k),
-    }
+    lines::number(judge::judge(d, converter, lent, &mut waits))
 }
 
 // The answer with so many of the lent bytes, and whether the work is left as it should be: 7 everywhere at first, then 0 in so many bytes.

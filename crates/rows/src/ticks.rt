@@ -4,14 +4,6 @@ use row_parts::{lines, tables};
 use runner::Runner;
 use std::io;
 
-// An answer as a number.
-fn number(answer: runner::Answer) -> u64 {
-    match answer {
-        runner::Answer::Done => 0,
-        runner::Answer::Refused(k) => u64::from(k),
-    }
-}
-
 // One tick of a converter from a record: the answer, and where the runner stands then.
 fn tick(
     rt: &impl Print,
@@ -27,9 +19,9 @@ fn tick(
         third: 0,
     };
     let (first, second, third) = shown;
-    let ticked = runner::step(converter, before, first, second, third);
-    let then = ticked.runner;
-    lines::line(rt, words, number(ticked.answer))?;
+    let answer = runner::step(converter, before, first, second, third);
+    let then = answer.unwrap_or(before);
+    lines::line(rt, words, lines::number(answer))?;
     lines::line(rt, "  then at record", u64::from(then.record))?;
     for (side, event) in [(1, then.first), (2, then.second), (3, then.third)] {
         println!(rt;

@@ -57,10 +57,7 @@ const PICTURE: [u8; 12] = [1, 0, 0, 0, 3, 16, 0, 0, 8, 0, 1, 0];
 
 // Its answer as a number.
 fn answer(d: &[u8], converter: &[u8], work: &mut [u8], list: &mut [u32]) -> u64 {
-    match judge::judge(d, converter, work, list) {
-        judge::Verdict::Yes => 0,
-        judge::Verdict::Refused(k) => u64::from(k),
-    }
+    lines::number(judge::judge(d, converter, work, list))
 }
 
 // The answer, with so many of the lent bytes and of the lent numbers, and the list after.

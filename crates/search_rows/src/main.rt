@@ -8,29 +8,17 @@ ghost use Rattle.layout.specs.Sizes.{formula_bytes, most_formulas, most_rules};
 use layout::sizes;
 use refusals::design_tests;
 use row_parts::{designs, lines, tables};
-use search::Outcome;
 use std::io;
-
-// The answer of a search as a number.
-fn answer(a: Outcome) -> u64 {
-    match a {
-        Outcome::Found(_) => 0,
-        Outcome::Refused(k) => u64::from(k),
-    }
-}
 
 // What the judge answers of a converter, as a number.
 fn judged(d: &[u8], converter: &[u8], work: &mut [u8]) -> u64 {
     let mut waits = [7u32; 16];
-    match judge::judge(d, converter, work, &mut waits) {
-        judge::Verdict::Yes => 0,
-        judge::Verdict::Refused(k) => u64::from(k),
-    }
+    lines::number(judge::judge(d, converter, work, &mut waits))
 }
 
 // The positions of a design that isn't refused, 65,537 where there are more than 65,536.
 fn positions(rt: &impl Print, d: &[u8]) -> io::Result<()> {
-    if design_tests::design_refusal(d) != 0 {
+    if design_tests::design_refusal(d).is_err() {
         return Ok(());
     }
     lines::line(rt, "  positions", positions::positions_of(d) as u64)
@@ -41,9 +29,9 @@ fn searched(rt: &impl Print, words: &str, d: &[u8]) -> io::Result<()> {
     let mut table = [7u8; 53248];
     let mut work = [7u8; 16384];
     let outcome = search::search(d, &mut table, &mut work);
-    lines::line(rt, words, answer(outcome))?;
+    lines::line(rt, words, lines::number(outcome))?;
     positions(rt, d)?;
-    if let Outcome::Found(n) = outcome {
+    if let Ok(n) = outcome {
         let converter = &table[..sizes::RECORD_BYTES * (n as usize)];
         lines::line(rt, "  judged", judged(d, converter, &mut work))?;
     }
@@ -121,8 +109,8 @@ fn waiting(rt: &impl Print, words: &str, least: u8, greatest: u8) -> io::Result<
     );
     let mut new = [0u8; 2048];
     match ranges::ranges(&d, &[0, 0, least, greatest], &mut new) {
-        ranges::Answer::Done => searched(rt, words, &new),
-        ranges::Answer::Refused(k) => lines::line(rt, words, u64::from(k)),
+        Ok(()) => searched(rt, words, &new),
+        Err(refusal) => lines::line(rt, words, u64::from(refusal.number())),
     }
 }
 

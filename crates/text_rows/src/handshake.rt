@@ -5,24 +5,13 @@ ghost use Rattle.layout.specs.Sizes.{formula_bytes, most_formulas, most_rules};
 use crate::texts;
 use layout::sizes;
 use row_parts::{designs, lines, tables};
-use search::Outcome;
 use std::io;
 
 // ---- the judge and the search, and their answers as a number
 
 fn judged(d: &[u8], converter: &[u8], work: &mut [u8]) -> u64 {
     let mut waits = [7u32; 16];
-    match judge::judge(d, converter, work, &mut waits) {
-        judge::Verdict::Yes => 0,
-        judge::Verdict::Refused(k) => u64::from(k),
-    }
-}
-
-fn answer(a: Outcome) -> u64 {
-    match a {
-        Outcome::Found(_) => 0,
-        Outcome::Refused(k) => u64::from(k),
-    }
+    lines::number(judge::judge(d, converter, work, &mut waits))
 }
 
 // Searches with room for 1,024 positions. Of a converter found, what the judge answers.
@@ -30,8 +19,8 @@ fn searched(rt: &impl Print, d: &[u8]) -> io::Result<()> {
     let mut table = [7u8; 53248];
     let mut work = [7u8; 16384];
     let outcome = search::search(d, &mut table, &mut work);
-    lines::line(rt, "  search", answer(outcome))?;
-    if let Outcome::Found(n) = outcome {
+    lines::line(rt, "  search", lines::number(outcome))?;
+    if let Ok(n) = outcome {
         let converter = &table[..sizes::RECORD_BYTES * (n as usize)];
         lines::line(
             rt,

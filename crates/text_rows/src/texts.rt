@@ -6,12 +6,12 @@ use std::io;
 // The answer: whether rules were made.
 pub fn answered(rt: &impl Print, text: &[u8], lent: &mut [u8]) -> io::Result<bool> {
     match rules::rules(text, lent) {
-        rules::Answer::Rules(n) => {
+        Ok(n) => {
             lines::line(rt, "  rules", n as u64)?;
             Ok(true)
         }
-        rules::Answer::Refused(k) => {
-            lines::line(rt, "  refused", u64::from(k))?;
+        Err(refusal) => {
+            lines::line(rt, "  refused", u64::from(refusal.number()))?;
             Ok(false)
         }
     }
@@ -42,7 +42,7 @@ pub fn with_sides(lent: &[u8; 1030]) -> [u8; 2048] {
 
 pub fn behind_sides(rt: &impl Print, lent: &[u8; 1030]) -> io::Result<()> {
     let refusal = design_tests::design_refusal(&with_sides(lent));
-    lines::line(rt, "  behind H's sides", u64::from(refusal))
+    lines::line(rt, "  behind H's sides", lines::number(refusal))
 }
 
 // ---- bytes that aren't written
