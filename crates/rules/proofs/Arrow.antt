@@ -20,19 +20,23 @@ use Rattle.typed.proofs.Unique.{joined, same}
 use Rattle.rules.specs.declared.parts.Grade.{Grade}
 use Rattle.rules.specs.declared.parts.Grade.TheVariants.{Refused}
 use Rattle.rules.specs.declared.parts.Part.{Part}
+use Rattle.rules.specs.declared.records.Kind.TheVariants as kind
+use Rattle.rules.specs.declared.records.Store.{Store}
+use Rattle.rules.specs.Stores.{Negates, Pushes}
+use Rattle.rules.specs.declared.records.Entry.{Entry}
 use Rattle.rules.specs.Making.{record_room, front, turned_from, entries, entry, closing, unwound, Pushed}
 use Rattle.rules.specs.Grades.{worse, under, grade}
-use Rattle.rules.specs.Reading.{Takes, Begun}
+use Rattle.rules.specs.Reading.{Takes, Read, Begun, Stands}
 use Rattle.rules.proofs.Pile.{below_less}
 use Rattle.rules.proofs.Graded.{worse_worse, worse_refused, left_right, right_right, under_right}
 use Rattle.rules.proofs.Turned.{size_pushed}
-use Rattle.rules.proofs.Places.{Stands, spelled_on}
+use Rattle.rules.proofs.Places.{spelled_on}
 use Rattle.rules.proofs.Begun.{on_top}
 use Rattle.rules.proofs.Taken.{parsed, turned_over}
 
 -- the records of an or, whose left operand's are made already
 or_made : (n : ℕ) (a b : Actl) → forms_to (records n (Rattle.model.specs.Actl.either a b))
-    ≡ forms_to (records n a) ++ (forms_to (records (n + size a) b) ++ closing (record { kind = 6; a = n + size a - 1 }) (n + size a + size b))
+    ≡ forms_to (records n a) ++ (forms_to (records (n + size a) b) ++ closing (record { kind = kind.Or; a = n + size a - 1 }) (n + size a + size b))
 unfolding records forms_to form_to closing flatten
 or_made n a b =
     forms_to_append (records n a) (records (n + size a) b ++ (disj (last n a) (last (n + size a) b) ∷ []))
@@ -44,11 +48,11 @@ behind_arrow : {d : ℕ} {s s₁ s' : List ℕ} {f e : Typed} → Parses (part d
 behind_arrow x w (no_arrow y n) = absurd (n (ap (λ (s : List ℕ). (scanned s).token) (same y x).1 ∙ w))
 behind_arrow {d} {s₁ = s₁} {s'} x w (an_arrow {g = g} y v z) = (g, subst (λ (s : List ℕ). Parses (part implication) d (scanned s).rest g s') (same y x).1 z)
 
-module _ {text : List ℕ} {room from height count : ℕ} {rs ps : List ℕ} {at h n : ℕ} {g : Grade} {rs' ps' : List ℕ}
-    (b : Begun text implication room from height count rs ps at h n g false false rs' ps') {p : Part} {rs₁ ps₁ : List ℕ} (t : Takes text disjunction room at h n rs' ps' p rs₁ ps₁)
+module _ {text : List ℕ} {room from height count : ℕ} {rs : List ℕ} {ps : List Entry} {at h n : ℕ} {g : Grade} {rs' : List ℕ} {ps' : List Entry}
+    (b : Begun text implication room from height count rs ps at h n g false false rs' ps') {p : Part} {rs₁ : List ℕ} {ps₁ : List Entry} (t : Takes text disjunction room at h n rs' ps' p rs₁ ps₁)
     (long' : length rs' ≡ record_room) (long₁ : length rs₁ ≡ record_room) where
   -- the records of the whole, where those of the left part are made
-  arrow_made : (ps₂ : List ℕ) → Pushed ps₁ h 6 ((p.count - 1) % 256) ps₂ → (f : Typed) → (grade (b.plug (implies t.tree f)) ≡ Refused → ⊥)
+  arrow_made : (ps₂ : List Entry) → Pushed ps₁ h (record { kind = kind.Or; a = (p.count - 1) % 256 }) ps₂ → (f : Typed) → (grade (b.plug (implies t.tree f)) ≡ Refused → ⊥)
       → p.count + size (formula_for f) + (h + 1) ≤ most_formulas
       → forms_to (records count (formula_for (b.plug (implies t.tree f))))
       ≡ (b.bytes ++ forms_to (records n (pushed false t.tree))) ++ (forms_to (records p.count (formula_for f)) ++ unwound (p.count + size (formula_for f)) (entries ps₂ height (h + 1 - height)))
@@ -62,17 +66,17 @@ module _ {text : List ℕ} {room from height count : ℕ} {rs ps : List ℕ} {at
       let i : n + (size a + size o + 1) ≡ p.count + size o + 1 = omega arith in
       let pos = size_pos o in
       let small : (p.count - 1) % 256 ≡ p.count - 1 = mod-eq_of_lt (omega arith) in
-      let top : entry ps₂ h ≡ record { kind = 6; a = p.count - 1 } = pushed₂.pushed (omega arith) ∙ ap (λ (x : ℕ). record { kind = 6; a = x }) small in
+      let top : entry ps₂ h ≡ record { kind = kind.Or; a = p.count - 1 } = pushed₂.pushed (omega arith) ∙ ap (λ (x : ℕ). record { kind = kind.Or; a = x }) small in
       let kept = pushed₂.kept ∙ t.kept in
       b.made (implies t.tree f) right (omega arith)
       ∙ ap₂ (λ (xs ys : List ℕ). b.bytes ++ (xs ++ ys))
       (or_made n a o
-      ∙ ap (λ (k : ℕ). forms_to (records n a) ++ (forms_to (records k o) ++ closing (record { kind = 6; a = k - 1 }) (k + size o))) e)
+      ∙ ap (λ (k : ℕ). forms_to (records n a) ++ (forms_to (records k o) ++ closing (record { kind = kind.Or; a = k - 1 }) (k + size o))) e)
       (ap (λ (k : ℕ). unwound k (entries ps' height (h - height))) i)
-      ∙ on_top b.bytes (forms_to (records n a)) (forms_to (records p.count o)) ps' ps₂ height h (p.count + size o) (record { kind = 6; a = p.count - 1 }) kept top b.above
+      ∙ on_top b.bytes (forms_to (records n a)) (forms_to (records p.count o)) ps' ps₂ height h (p.count + size o) (record { kind = kind.Or; a = p.count - 1 }) kept top b.above
 
-  pub with_arrow : {next : ℕ} {rs₂ ps₂ : List ℕ} → Ended disjunction (drop p.next text) → Stands text p.next Implies next → (p.count ≤ most_formulas → rs₂ ≡ turned_from rs₁ n (p.count - n))
-      → Pushed ps₁ h 6 ((p.count - 1) % 256) ps₂ → Begun text implication room from height count rs ps next (h + 1) p.count (worse g (under p.grade)) false false rs₂ ps₂
+  pub with_arrow : {next : ℕ} {rs₂ : List ℕ} {ps₂ : List Entry} → Ended disjunction (drop p.next text) → Stands text p.next Implies next → (p.count ≤ most_formulas → rs₂ ≡ turned_from rs₁ n (p.count - n))
+      → Pushed ps₁ h (record { kind = kind.Or; a = (p.count - 1) % 256 }) ps₂ → Begun text implication room from height count rs ps next (h + 1) p.count (worse g (under p.grade)) false false rs₂ ps₂
   unfolding grade pushed size
   with_arrow {next} {rs₂} {ps₂} ends w turned pushed₂ =
       let f = t.tree in
@@ -114,13 +118,22 @@ module _ {text : List ℕ} {room from height count : ℕ} {rs ps : List ℕ} {at
       regrouped : (a b c : List Token) → (a ++ (b ++ (Implies ∷ []))) ++ c ≡ a ++ (b ++ (Implies ∷ c))
       regrouped a b c = append_assoc a (b ++ (Implies ∷ [])) c ∙ ap (λ (xs : List Token). a ++ xs) (append_assoc b (Implies ∷ []) c)
 
+-- as the code reads it
+pub arrow_begun : {text : List ℕ} {room from at next height count : ℕ} {rs : List ℕ} {ps : List Entry} {s : Store} {g : Grade} {p : Part} {s₁ s₂ s₃ : Store} {k : Grade}
+    → Begun text implication room from height count rs ps at s.height s.count g false false s.records s.pending → Read text disjunction room at s p s₁ → Stands text p.next Implies next → Negates s.count s₁ s₂
+    → Pushes (record { kind = kind.Or; a = (p.count - 1) % 256 }) s₂ s₃ → k ≡ worse g (under p.grade) → Begun text implication room from height count rs ps next s₃.height s₃.count k false false s₃.records s₃.pending
+arrow_begun {s = s} {s₁ = s₁} b x w n u e =
+    let h = n.height ∙ x.height in
+    rw (u.height, h, u.counted ∙ n.counted ∙ x.count, e, u.records)
+    (with_arrow b x.takes s.all_records s₁.all_records x.ends w (rw x.count at n.turned) (rw (n.pending, h) at u.pushed))
+
 -- an implication begins with a disjunction
 pub first_of : {d : ℕ} {s s' : List ℕ} {f : Typed} → Parses (part implication) d s f s' → (g : Typed) × (s₁ : List ℕ) × Parses (part disjunction) d s g s₁
 first_of {s' = s'} {f} (no_arrow x n) = (f, s', x)
 first_of (an_arrow {s₁ = s₁} {f = f} x e y) = (f, s₁, x)
 
 -- and may be no more
-pub as_last : {text : List ℕ} {room at height count : ℕ} {rs ps : List ℕ} {p : Part} {rs' ps' : List ℕ} → Takes text disjunction room at height count rs ps p rs' ps'
+pub as_last : {text : List ℕ} {room at height count : ℕ} {rs : List ℕ} {ps : List Entry} {p : Part} {rs' : List ℕ} {ps' : List Entry} → Takes text disjunction room at height count rs ps p rs' ps'
     → Takes text implication room at height count rs ps p rs' ps'
 as_last t =
     record {

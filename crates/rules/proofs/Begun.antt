@@ -18,16 +18,17 @@ use Rattle.typed.specs.Records.{at_steps, pushed, formula_for, size, records, fo
 use Rattle.typed.proofs.Sizes.{forms_to_append, size_pos}
 use Rattle.rules.specs.declared.parts.Grade.{Grade}
 use Rattle.rules.specs.declared.parts.Grade.TheVariants.{Plain}
-use Rattle.rules.specs.Making.{front, below, Entry, entry, entries, unwound, closing}
+use Rattle.rules.specs.declared.records.Entry.{Entry}
+use Rattle.rules.specs.Making.{front, below, entry, entries, unwound, closing}
 use Rattle.rules.specs.Grades.{worse, grade, asked_behind}
-use Rattle.rules.specs.Reading.{Begun, Pended, trues, true_bytes, opening}
+use Rattle.rules.specs.Reading.{Begun, Pended, trues, true_bytes, opening, Stands}
 use Rattle.rules.proofs.Pile.{unwound_last, entries_kept, entries_more, below_less}
 use Rattle.rules.proofs.Graded.{behind_prefixes, not_behind, none_before, left_right}
 use Rattle.rules.proofs.Turned.{size_pushed}
-use Rattle.rules.proofs.Places.{Stands, spelled_on, behind_token, behind_not, behind_temporal}
+use Rattle.rules.proofs.Places.{spelled_on, behind_token, behind_not, behind_temporal}
 
 -- nothing of it is read
-pub at_first : (text : List ℕ) (r : Rank) (room at height count : ℕ) (rs ps : List ℕ) → at ≤ length text → Begun text r room at height count rs ps at height count Plain false false rs ps
+pub at_first : (text : List ℕ) (r : Rank) (room at height count : ℕ) (rs : List ℕ) (ps : List Entry) → at ≤ length text → Begun text r room at height count rs ps at height count Plain false false rs ps
 unfolding entries unwound
 at_first text r room at height count rs ps l =
     let z : height - height ≡ 0 = omega arith in
@@ -81,7 +82,7 @@ regrouped : (a b c d e : List ℕ) → a ++ ((b ++ (c ++ d)) ++ e) ≡ (a ++ b) 
 regrouped a b c d e = simp append_assoc
 
 -- the records of an entry that is pushed, between those of what it waits for and those of the entries below
-pub on_top : (a b c : List ℕ) (ps qs : List ℕ) (height h k : ℕ) (e : Entry) → below qs h ≡ below ps h → entry qs h ≡ e → height ≤ h
+pub on_top : (a b c : List ℕ) (ps qs : List Entry) (height h k : ℕ) (e : Entry) → below qs h ≡ below ps h → entry qs h ≡ e → height ≤ h
     → a ++ ((b ++ (c ++ closing e k)) ++ unwound (k + 1) (entries ps height (h - height))) ≡ (a ++ b) ++ (c ++ unwound k (entries qs height (h + 1 - height)))
 on_top a b c ps qs height h k e kept top up =
     let es = entries ps height (h - height) in
@@ -92,7 +93,7 @@ on_top a b c ps qs height h k e kept top up =
     ∙ ap₂ (λ (xs : List Entry) (x : Entry). xs ++ (x ∷ [])) (entries_kept qs ps h kept height (h - height) (omega arith)) (ap (entry qs) i ∙ top) in
     regrouped a b c (closing e k) (unwound (k + 1) es) ∙ ap (λ (xs : List ℕ). (a ++ b) ++ (c ++ xs)) (sym (ap (unwound k) pile ∙ unwound_last es k e))
 
-module _ {text : List ℕ} {room from height count : ℕ} {rs ps : List ℕ} {at h n : ℕ} {g : Grade} {nots odd : Bool} {rs' ps' : List ℕ}
+module _ {text : List ℕ} {room from height count : ℕ} {rs : List ℕ} {ps : List Entry} {at h n : ℕ} {g : Grade} {nots odd : Bool} {rs' : List ℕ} {ps' : List Entry}
     (b : Begun text closest room from height count rs ps at h n g nots odd rs' ps') where
   -- a negation
   pub with_not : {next : ℕ} → Stands text at token.Not next → Begun text closest room from height count rs ps next h n g true (not odd) rs' ps'
@@ -124,7 +125,7 @@ module _ {text : List ℕ} {room from height count : ℕ} {rs ps : List ℕ} {at
       }
 
   -- the records of the part with a temporal operator more
-  temporal_made : (q : Quantifier) (o : Operator) (ps'' : List ℕ) → below ps'' h ≡ below ps' h → entry ps'' h ≡ opening o n → odd ≡ false → (f : Typed)
+  temporal_made : (q : Quantifier) (o : Operator) (ps'' : List Entry) → below ps'' h ≡ below ps' h → entry ps'' h ≡ opening o n → odd ≡ false → (f : Typed)
       → b.bytes ++ (forms_to (records n (pushed (not odd) (along q o f))) ++ unwound (n + size (formula_for (along q o f))) (entries ps' height (h - height)))
       ≡ (b.bytes ++ true_bytes o) ++ (forms_to (records (n + trues o) (pushed (not odd) f)) ++ unwound (n + trues o + size (formula_for f)) (entries ps'' height (h + 1 - height)))
   unfolding pushed
@@ -139,7 +140,7 @@ module _ {text : List ℕ} {room from height count : ℕ} {rs ps : List ℕ} {at
       ∙ ap (λ (k : Bool). (b.bytes ++ true_bytes o) ++ (forms_to (records m (pushed (not k) f)) ++ unwound (m + size a) (entries ps'' height (h + 1 - height)))) (sym even)
 
   -- a temporal operator
-  pub with_temporal : {q : Quantifier} {o : Operator} {next : ℕ} {rs'' ps'' : List ℕ} → Stands text at (token.Temporal q o) next → Pended o h n rs' ps' rs'' ps''
+  pub with_temporal : {q : Quantifier} {o : Operator} {next : ℕ} {rs'' : List ℕ} {ps'' : List Entry} → Stands text at (token.Temporal q o) next → Pended o h n rs' ps' rs'' ps''
       → Begun text closest room from height count rs ps next (h + 1) (n + trues o) (worse g (asked_behind nots q)) nots odd rs'' ps''
   unfolding grade pushed
   with_temporal {q} {o} {next} {rs''} {ps''} w d =

@@ -19,31 +19,37 @@ use Rattle.typed.proofs.Unique.{joined, same}
 use Rattle.rules.specs.declared.parts.Grade.{Grade}
 use Rattle.rules.specs.declared.parts.Grade.TheVariants.{Refused}
 use Rattle.rules.specs.declared.parts.Part.{Part}
-use Rattle.rules.specs.Making.{record_room, pending_room, front, Added}
+use Rattle.rules.specs.declared.records.Kind.{Kind}
+use Rattle.rules.specs.declared.records.Kind.TheVariants as kind
+use Rattle.rules.specs.declared.records.Store.{Store}
+use Rattle.rules.specs.declared.records.Entry.{Entry}
+use Rattle.rules.specs.Making.{number, front, Added}
 use Rattle.rules.specs.Grades.{worse, grade}
-use Rattle.rules.specs.Reading.{Takes, Nothing}
+use Rattle.rules.specs.Reading.{Takes, Read, Nothing, Stands}
 use Rattle.rules.specs.Joins.{Joins}
-use Rattle.rules.specs.Chains.{Connective, conjunctive, disjunctive, sign, tree_of, whole, inner, more, kind_of}
+use Rattle.rules.specs.declared.readers.Connective.{Connective}
+use Rattle.rules.specs.declared.readers.Connective.TheVariants as connective
+use Rattle.rules.specs.Chains.{sign, tree_of, whole, inner, more, kind_of}
 use Rattle.rules.proofs.Graded.{left_right, right_right}
-use Rattle.rules.proofs.Places.{Stands, spelled_on}
+use Rattle.rules.proofs.Places.{spelled_on}
 use Rattle.rules.proofs.Taken.{parsed}
 
 -- ---- two parts and the record that joins them
 -- a formula of two others, by the kind of its record
-pub record Binary (kind : ℕ) (c a b : Actl) : Type 0 where
+pub record Binary (kind : Kind) (c a b : Actl) : Type 0 where
   pub form : ℕ → ℕ → Form
-  pub bytes : (x y : ℕ) → form_to (form x y) ≡ kind ∷ x ∷ y ∷ 0 ∷ []
+  pub bytes : (x y : ℕ) → form_to (form x y) ≡ number kind ∷ x ∷ y ∷ 0 ∷ []
   pub sized : size c ≡ size a + size b + 1
   pub recorded : (n : ℕ) → records n c ≡ records n a ++ (records (n + size a) b ++ (form (last n a) (last (n + size a) b) ∷ []))
 
-pub until_binary : (q : Quantifier) (f g : Typed) → Binary 8 (formula_for (until q f g)) (formula_for f) (formula_for g)
+pub until_binary : (q : Quantifier) (f g : Typed) → Binary kind.Until (formula_for (until q f g)) (formula_for f) (formula_for g)
 unfolding pushed records size form_to
 until_binary q f g = record { form = au; bytes = λ x y. refl; sized = refl; recorded = λ n. refl }
 
 pub tree_binary : (c : Connective) (f g : Typed) → Binary (kind_of c) (formula_for (tree_of c f g)) (formula_for f) (formula_for g)
 unfolding pushed records size form_to
-tree_binary conjunctive f g = record { form = conj; bytes = λ x y. refl; sized = refl; recorded = λ n. refl }
-tree_binary disjunctive f g = record { form = disj; bytes = λ x y. refl; sized = refl; recorded = λ n. refl }
+tree_binary connective.And f g = record { form = conj; bytes = λ x y. refl; sized = refl; recorded = λ n. refl }
+tree_binary connective.Or f g = record { form = disj; bytes = λ x y. refl; sized = refl; recorded = λ n. refl }
 
 -- a record by itself
 alone : (f : Form) → forms_to (f ∷ []) ≡ form_to f
@@ -51,15 +57,15 @@ unfolding forms_to flatten
 alone f = append-nil (form_to f)
 
 -- its records: those of the two, and its own
-binary_made : {kind : ℕ} {c a b : Actl} → Binary kind c a b → (rs rs₁ rs₂ rs₃ : List ℕ) (n n₁ n₂ : ℕ) → n₁ ≡ n + size a → n₂ ≡ n₁ + size b → n₂ < most_formulas
-    → front rs₁ n₁ ≡ front rs n ++ forms_to (records n a) → front rs₂ n₂ ≡ front rs₁ n₁ ++ forms_to (records n₁ b) → Added rs₂ n₂ (kind ∷ (n₁ - 1) % 256 ∷ (n₂ - 1) % 256 ∷ 0 ∷ []) rs₃
+binary_made : {kind : Kind} {c a b : Actl} → Binary kind c a b → (rs rs₁ rs₂ rs₃ : List ℕ) (n n₁ n₂ : ℕ) → n₁ ≡ n + size a → n₂ ≡ n₁ + size b → n₂ < most_formulas
+    → front rs₁ n₁ ≡ front rs n ++ forms_to (records n a) → front rs₂ n₂ ≡ front rs₁ n₁ ++ forms_to (records n₁ b) → Added rs₂ n₂ (number kind ∷ (n₁ - 1) % 256 ∷ (n₂ - 1) % 256 ∷ 0 ∷ []) rs₃
     → front rs₃ (n₂ + 1) ≡ front rs n ++ forms_to (records n c)
 binary_made {kind} {c} {a} {b} w rs rs₁ rs₂ rs₃ n n₁ n₂ e₁ e₂ few left right added =
     let own = w.form (last n a) (last (n + size a) b) in
     let i : (n₁ - 1) % 256 ≡ last n a = mod-eq_of_lt (omega arith) ∙ ap (λ (k : ℕ). k - 1) e₁ in
     let j : (n₂ - 1) % 256 ≡ last (n + size a) b = mod-eq_of_lt (omega arith) ∙ ap (λ (k : ℕ). k - 1) (e₂ ∙ ap (λ (k : ℕ). k + size b) e₁) in
     added few
-    ∙ ap₂ ◌++◌ (right ∙ ap₂ (λ (xs : List ℕ) (k : ℕ). xs ++ forms_to (records k b)) left e₁) (ap₂ (λ (x y : ℕ). kind ∷ x ∷ y ∷ 0 ∷ []) i j ∙ sym (w.bytes (last n a) (last (n + size a) b)))
+    ∙ ap₂ ◌++◌ (right ∙ ap₂ (λ (xs : List ℕ) (k : ℕ). xs ++ forms_to (records k b)) left e₁) (ap₂ (λ (x y : ℕ). number kind ∷ x ∷ y ∷ 0 ∷ []) i j ∙ sym (w.bytes (last n a) (last (n + size a) b)))
     ∙ regrouped (front rs n) (forms_to (records n a)) (forms_to (records (n + size a) b)) (form_to own)
     ∙ ap (λ (xs : List ℕ). front rs n ++ xs)
     (sym
@@ -69,12 +75,20 @@ binary_made {kind} {c} {a} {b} w rs rs₁ rs₂ rs₃ n n₁ n₂ e₁ e₂ few 
     regrouped : (a b c d : List ℕ) → ((a ++ b) ++ c) ++ d ≡ a ++ (b ++ (c ++ d))
     regrouped a b c d = simp append_assoc
 
+-- so they are where they were joined
+pub record Joined (kind : Kind) (left right : Part) (rs : List ℕ) (p : Part) (rs' : List ℕ) : Type 0 where
+  pub part : p ≡ record { next = right.next; count = right.count + 1; grade = worse left.grade right.grade }
+  pub added : Added rs right.count (number kind ∷ (left.count - 1) % 256 ∷ (right.count - 1) % 256 ∷ 0 ∷ []) rs'
+
+pub joined_by : {kind : Kind} {left right : Part} {s : Store} {p : Part} {s' : Store} → Joins kind left right s p s' → s.count ≡ right.count → Joined kind left right s.records p s'.records
+joined_by x e = record { part = x.part; added = rw e at x.adds.added }
+
 -- two parts that were read, one behind the other, are a part
-pub pair_taken : {text : List ℕ} {r r₁ r₂ : Rank} {room room₁ from at₁ at₂ height count kind : ℕ} {rs ps : List ℕ} {p : Part} {rs₁ ps₁ : List ℕ} {q : Part} {rs₂ ps₂ rs₃ : List ℕ}
+pub pair_taken : {text : List ℕ} {r r₁ r₂ : Rank} {room room₁ from at₁ at₂ height count : ℕ} {kind : Kind} {rs : List ℕ} {ps : List Entry} {p : Part} {rs₁ : List ℕ} {ps₁ : List Entry} {q : Part} {rs₂ : List ℕ} {ps₂ : List Entry} {rs₃ : List ℕ}
     → (left : Takes text r₁ room₁ at₁ height count rs ps p rs₁ ps₁) → (right : Takes text r₂ room₁ at₂ height p.count rs₁ ps₁ q rs₂ ps₂)
     → {W : Typed} {ts : List Token} {next : ℕ} → Binary kind (formula_for W) (formula_for left.tree) (formula_for right.tree) → Spells (drop from text) ts (drop next text) → Reads r room ts W
     → from ≤ at₁ → p.next < at₂ → q.next ≤ next → next ≤ length text → {k : Grade} → k ≡ grade W → ((k ≡ Refused → ⊥) → (p.grade ≡ Refused → ⊥) × (q.grade ≡ Refused → ⊥))
-    → Added rs₂ q.count (kind ∷ (p.count - 1) % 256 ∷ (q.count - 1) % 256 ∷ 0 ∷ []) rs₃
+    → Added rs₂ q.count (number kind ∷ (p.count - 1) % 256 ∷ (q.count - 1) % 256 ∷ 0 ∷ []) rs₃
     → Takes text r room from height count rs ps (record { next = next; count = q.count + 1; grade = k }) rs₃ ps₂
 pair_taken {count = count} {rs = rs} {p = p} {rs₁} {q = q} {rs₂ = rs₂} {rs₃ = rs₃} left right {W = W} {ts} w sp reads l₁ l₂ l₃ l₄ e parts added =
     let i = left.counted in
@@ -98,8 +112,13 @@ pair_taken {count = count} {rs = rs} {p = p} {rs₁} {q = q} {rs₂ = rs₂} {rs
     }
 
 -- ---- chains
+-- the place of the reader of a chain's parts among those of the cycle
+abbrev pub inner_place : Connective → ℕ
+inner_place connective.And = 4
+inner_place connective.Or = 6
+
 -- A chain was read, to a part's end. A reading of the whole goes on from here.
-pub record Chained (c : Connective) (text : List ℕ) (room from height count : ℕ) (rs ps : List ℕ) (p : Part) (rs' ps' : List ℕ) : Type 0 where
+pub record Chained (c : Connective) (text : List ℕ) (room from height count : ℕ) (rs : List ℕ) (ps : List Entry) (p : Part) (rs' : List ℕ) (ps' : List Entry) : Type 0 where
   pub taken : Takes text (whole c) room from height count rs ps p rs' ps'
   pub only : (f : Typed) (s : List ℕ) → Parses (part (whole c)) room (drop from text) f s → Parses (more c taken.tree) room (drop p.next text) f s
   pub ended : Ended (inner c) (drop p.next text)
@@ -109,37 +128,37 @@ on : {g h : Goal} {d : ℕ} {s r : List ℕ} {f : Typed} {s' : List ℕ} → g �
 on e k x = rw⁻¹ (e, k) x
 
 first_only : (c : Connective) {d : ℕ} {s s₁ s' : List ℕ} {f g : Typed} → Parses (part (inner c)) d s f s₁ → Parses (part (whole c)) d s g s' → Parses (more c f) d s₁ g s'
-first_only conjunctive x (a_conjunction y m) = let w = same y x in on (ap (more conjunctive) w.0) w.1 m
-first_only disjunctive x (a_disjunction y m) = let w = same y x in on (ap (more disjunctive) w.0) w.1 m
+first_only connective.And x (a_conjunction y m) = let w = same y x in on (ap (more connective.And) w.0) w.1 m
+first_only connective.Or x (a_disjunction y m) = let w = same y x in on (ap (more connective.Or) w.0) w.1 m
 
 next_only : (c : Connective) (e : Typed) {d : ℕ} {s s₁ s' : List ℕ} {f g : Typed} → (scanned s).token ≡ sign c → Parses (part (inner c)) d (scanned s).rest f s₁ → Parses (more c e) d s g s'
     → Parses (more c (tree_of c e f)) d s₁ g s'
-next_only conjunctive e w x (no_more_and n) = absurd (n w)
-next_only conjunctive e w x (one_more_and v y m) = let k = same y x in on (ap (λ (f : Typed). more conjunctive (tree_of conjunctive e f)) k.0) k.1 m
-next_only disjunctive e w x (no_more_or n) = absurd (n w)
-next_only disjunctive e w x (one_more_or v y m) = let k = same y x in on (ap (λ (f : Typed). more disjunctive (tree_of disjunctive e f)) k.0) k.1 m
+next_only connective.And e w x (no_more_and n) = absurd (n w)
+next_only connective.And e w x (one_more_and v y m) = let k = same y x in on (ap (λ (f : Typed). more connective.And (tree_of connective.And e f)) k.0) k.1 m
+next_only connective.Or e w x (no_more_or n) = absurd (n w)
+next_only connective.Or e w x (one_more_or v y m) = let k = same y x in on (ap (λ (f : Typed). more connective.Or (tree_of connective.Or e f)) k.0) k.1 m
 
 next_part : (c : Connective) (e : Typed) {d : ℕ} {s s' : List ℕ} {g : Typed} → (scanned s).token ≡ sign c → Parses (more c e) d s g s' → (f : Typed) × (s₁ : List ℕ) × Parses (part (inner c)) d (scanned s).rest f s₁
-next_part conjunctive e w (no_more_and n) = absurd (n w)
-next_part conjunctive e w (one_more_and {s₁ = s₁} {g = g} v y m) = (g, s₁, y)
-next_part disjunctive e w (no_more_or n) = absurd (n w)
-next_part disjunctive e w (one_more_or {s₁ = s₁} {g = g} v y m) = (g, s₁, y)
+next_part connective.And e w (no_more_and n) = absurd (n w)
+next_part connective.And e w (one_more_and {s₁ = s₁} {g = g} v y m) = (g, s₁, y)
+next_part connective.Or e w (no_more_or n) = absurd (n w)
+next_part connective.Or e w (one_more_or {s₁ = s₁} {g = g} v y m) = (g, s₁, y)
 
 reads_one : (c : Connective) {d : ℕ} {ts : List Token} {f : Typed} → Reads (inner c) d ts f → Reads (whole c) d ts f
-reads_one conjunctive r = as_conjunction r
-reads_one disjunctive r = as_disjunction r
+reads_one connective.And r = as_conjunction r
+reads_one connective.Or r = as_disjunction r
 
 reads_more : (c : Connective) {d : ℕ} {ts us : List Token} {f g : Typed} → Reads (whole c) d ts f → Reads (inner c) d us g → Reads (whole c) d (ts ++ (sign c ∷ us)) (tree_of c f g)
-reads_more conjunctive r r' = by_and r r'
-reads_more disjunctive r r' = by_or r r'
+reads_more connective.And r r' = by_and r r'
+reads_more connective.Or r r' = by_or r r'
 
 tree_grade : (c : Connective) (f g : Typed) → grade (tree_of c f g) ≡ worse (grade f) (grade g)
 unfolding grade
-tree_grade conjunctive f g = refl
-tree_grade disjunctive f g = refl
+tree_grade connective.And f g = refl
+tree_grade connective.Or f g = refl
 
 -- a chain of one part
-pub chain_of : (c : Connective) {text : List ℕ} {room from height count : ℕ} {rs ps : List ℕ} {p : Part} {rs' ps' : List ℕ} → (t : Takes text (inner c) room from height count rs ps p rs' ps')
+pub chain_of : (c : Connective) {text : List ℕ} {room from height count : ℕ} {rs : List ℕ} {ps : List Entry} {p : Part} {rs' : List ℕ} {ps' : List Entry} → (t : Takes text (inner c) room from height count rs ps p rs' ps')
     → Ended (inner c) (drop p.next text) → Chained c text room from height count rs ps p rs' ps'
 chain_of c t e =
     record {
@@ -161,11 +180,11 @@ chain_of c t e =
       ended = e;
     }
 
-module _ (c : Connective) {text : List ℕ} {room from height count : ℕ} {rs ps : List ℕ} {p : Part} {rs' ps' : List ℕ} (h : Chained c text room from height count rs ps p rs' ps')
+module _ (c : Connective) {text : List ℕ} {room from height count : ℕ} {rs : List ℕ} {ps : List Entry} {p : Part} {rs' : List ℕ} {ps' : List Entry} (h : Chained c text room from height count rs ps p rs' ps')
     {at : ℕ} (w : Stands text p.next (sign c) at) where
   -- one part more
-  pub chain_more : {q : Part} {rs₁ ps₁ : List ℕ} (t : Takes text (inner c) room at height p.count rs' ps' q rs₁ ps₁) → Ended (inner c) (drop q.next text)
-      → {j : Part} {rs₂ : List ℕ} → Joins (kind_of c) p q rs₁ j rs₂ → Chained c text room from height count rs ps j rs₂ ps₁
+  pub chain_more : {q : Part} {rs₁ : List ℕ} {ps₁ : List Entry} (t : Takes text (inner c) room at height p.count rs' ps' q rs₁ ps₁) → Ended (inner c) (drop q.next text)
+      → {j : Part} {rs₂ : List ℕ} → Joined (kind_of c) p q rs₁ j rs₂ → Chained c text room from height count rs ps j rs₂ ps₁
   unfolding pair_taken
   chain_more {q} {rs₁} {ps₁} t e {j} {rs₂} x =
       let l = h.taken in
@@ -188,29 +207,19 @@ module _ (c : Connective) {text : List ℕ} {room from height count : ℕ} {rs p
       let y = next_part c h.taken.tree w.token (h.only f s x) in
       n y.0 y.1 (subst (λ (r : List ℕ). Parses (part (inner c)) room r y.0 y.1) w.left y.2)
 
--- no part stands here, so none of the whole does
-pub chain_none : (c : Connective) {room : ℕ} {s : List ℕ} → Nothing (inner c) room s → Nothing (whole c) room s
-chain_none conjunctive n f s (a_conjunction {s₁ = s₁} {f = g} y m) = n g s₁ y
-chain_none disjunctive n f s (a_disjunction {s₁ = s₁} {f = g} y m) = n g s₁ y
-
 -- the chain ends here
-pub chain_ended : (c : Connective) {text : List ℕ} {room from height count : ℕ} {rs ps : List ℕ} {p : Part} {rs' ps' : List ℕ} → Chained c text room from height count rs ps p rs' ps'
+pub chain_ended : (c : Connective) {text : List ℕ} {room from height count : ℕ} {rs : List ℕ} {ps : List Entry} {p : Part} {rs' : List ℕ} {ps' : List Entry} → Chained c text room from height count rs ps p rs' ps'
     → Ends (sign c) (drop p.next text) → Ended (whole c) (drop p.next text)
-chain_ended conjunctive h n = n
-chain_ended disjunctive h n = (h.ended, n)
+chain_ended connective.And h n = n
+chain_ended connective.Or h n = (h.ended, n)
 
--- ---- the loop that reads a chain
--- whatever the chain was read from, it is read on
-pub record Chaining (c : Connective) (text : List ℕ) (room from height count : ℕ) (p₀ : Part) (rs₀ ps₀ : List ℕ) (p : Part) (rs ps : List ℕ) : Type 0 where
-  pub all_records : length rs ≡ record_room
-  pub all_pending : length ps ≡ pending_room
-  pub on : (rs' ps' : List ℕ) → Chained c text room from height count rs' ps' p₀ rs₀ ps₀ → Chained c text room from height count rs' ps' p rs ps
+-- ---- as the code reads them
+-- a part that stands behind another
+pub right_of : {text : List ℕ} {r : Rank} {room at height count : ℕ} {s s' : Store} {q : Part} → s.count ≡ count → s.height ≡ height → Read text r room at s q s'
+    → Takes text r room at height count s.records s.pending q s'.records s'.pending
+right_of c h x = rw (← c, ← h) x.takes
 
-pub chaining_first : (c : Connective) {text : List ℕ} {room from height count : ℕ} {p : Part} {rs ps : List ℕ} → length rs ≡ record_room → length ps ≡ pending_room
-    → Chaining c text room from height count p rs ps p rs ps
-chaining_first c l m = record { all_records = l; all_pending = m; on = λ rs ps x. x }
-
-pub chaining_more : (c : Connective) {text : List ℕ} {room from height count : ℕ} {p₀ : Part} {rs₀ ps₀ : List ℕ} {p : Part} {rs ps : List ℕ} → Chaining c text room from height count p₀ rs₀ ps₀ p rs ps
-    → {at : ℕ} → Stands text p.next (sign c) at → {q : Part} {rs₁ ps₁ : List ℕ} (t : Takes text (inner c) room at height p.count rs ps q rs₁ ps₁) → Ended (inner c) (drop q.next text)
-    → {j : Part} {rs₂ : List ℕ} → Joins (kind_of c) p q rs₁ j rs₂ → length rs₂ ≡ record_room → length ps₁ ≡ pending_room → Chaining c text room from height count p₀ rs₀ ps₀ j rs₂ ps₁
-chaining_more c h w t e x l m = record { all_records = l; all_pending = m; on = λ rs ps y. chain_more c (h.on rs ps y) w t e x }
+pub chain_joined : (c : Connective) {text : List ℕ} {room from at height count : ℕ} {rs : List ℕ} {ps : List Entry} {s₁ s₂ s₃ : Store} {p q j : Part} → Chained c text room from height count rs ps p s₁.records s₁.pending
+    → Stands text p.next (sign c) at → Read text (inner c) room at s₁ q s₂ → s₁.count ≡ p.count → s₁.height ≡ height → Joins (kind_of c) p q s₂ j s₃
+    → Chained c text room from height count rs ps j s₃.records s₃.pending
+chain_joined c h w x n l y = rw y.adds.pending (chain_more c h w (right_of n l x) x.ends (joined_by y x.count))

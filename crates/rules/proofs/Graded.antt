@@ -3,13 +3,27 @@ use mathlib.Core.Path.{◌≡◌, refl, sym, ap, ap₂, ◌∙◌}
 use mathlib.Core.Bool.{Bool, true, false, ◌||◌}
 use Prim.Native.Nat.{ℕ}
 use native.Mathlib.Omega.{arith}
+use Rattle.std.specs.Ordering.{ord_max}
 use Rattle.tokens.specs.declared.Quantifier.{Quantifier}
 use Rattle.tokens.specs.declared.Quantifier.TheVariants.{All, Some}
 use Rattle.typed.specs.Grammar.{Typed, named, constant, negated, along, until, and, or, implies}
 use Rattle.typed.specs.Records.{timed}
+use Rattle.rules.specs.contracts.parts.GradeOrd.TheImpl.{cmp-value}
 use Rattle.rules.specs.declared.parts.Grade.{Grade}
 use Rattle.rules.specs.declared.parts.Grade.TheVariants.{Plain, Temporal, Refused}
 use Rattle.rules.specs.Grades.{worse, under, asked, grade, prefixed, asked_behind}
+
+-- the greater of two grades is the worse of them
+pub max_worse : (a b : Grade) → ord_max cmp-value.it a b ≡ worse a b
+max_worse Plain Plain = refl
+max_worse Plain Temporal = refl
+max_worse Plain Refused = refl
+max_worse Temporal Plain = refl
+max_worse Temporal Temporal = refl
+max_worse Temporal Refused = refl
+max_worse Refused Plain = refl
+max_worse Refused Temporal = refl
+max_worse Refused Refused = refl
 
 -- ---- of parts and the whole
 pub worse_worse : (a b c : Grade) → worse (worse a b) c ≡ worse a (worse b c)

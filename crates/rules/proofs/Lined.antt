@@ -19,13 +19,13 @@ use Rattle.rules.specs.declared.parts.Grade.{Grade}
 use Rattle.rules.specs.declared.parts.Grade.TheVariants.{Plain, Refused}
 use Rattle.rules.specs.declared.parts.Part.{Part}
 use Rattle.rules.specs.Grades.{worse, grades}
-use Rattle.rules.specs.Reading.{Takes, Nothing}
+use Rattle.rules.specs.Reading.{Takes, Nothing, Stands}
 use Rattle.rules.specs.Rules.{formulas_for}
 use Rattle.rules.specs.Lining.{Ruled, Holds, ReadAs}
 use Rattle.rules.proofs.Graded.{left_right, right_right}
-use Rattle.rules.proofs.Places.{Stands}
 use Rattle.rules.proofs.Taken.{parsed}
 use Rattle.rules.proofs.Lists.{sizes_more, records_more, rules_more, formulas_more, grades_more}
+use Rattle.rules.specs.declared.records.Entry.{Entry}
 
 pub record Lined (text : List ℕ) (at n count : ℕ) (g : Grade) (rs us : List ℕ) : Type 0 where
   pub rules : List Typed
@@ -80,7 +80,7 @@ module _ {text : List ℕ} {at n count : ℕ} {g : Grade} {rs us : List ℕ} (h 
   pub lined_wrong : Nothing implication most_depth (drop at text) → (gs : List Typed) → Lines text gs → ⊥
   lined_wrong none gs x = let y = next_line gs x in none y.rule y.left (line_of y)
 
-  module _ {ps : List ℕ} {p : Part} {rs₁ ps₁ : List ℕ} (t : Takes text implication most_depth at 0 count rs ps p rs₁ ps₁) (e : Ended implication (drop p.next text)) where
+  module _ {ps : List Entry} {p : Part} {rs₁ : List ℕ} {ps₁ : List Entry} (t : Takes text implication most_depth at 0 count rs ps p rs₁ ps₁) (e : Ended implication (drop p.next text)) where
     -- the line of a reading ends where the rule was read to
     same_line : (x : FirstLine (drop at text)) → x.left ≡ drop p.next text
     same_line x = (same (line_of x) (parsed t e)).1

@@ -1,8 +1,8 @@
 -- Tokens at places of a text, and what a reading goes on with behind one.
 use mathlib.Core.Path.{◌≡◌, sym, subst, ◌∙◌}
 use mathlib.Core.List.{List, [], ◌∷◌, ◌++◌}
-use Prim.Native.Nat.{ℕ, ◌≤◌, ◌<◌}
-use lib.ListN.{length, drop}
+use Prim.Native.Nat.{ℕ}
+use lib.ListN.{drop}
 use Rattle.tokens.specs.declared.Found.{Found}
 use Rattle.tokens.specs.declared.Token.{Token}
 use Rattle.tokens.specs.declared.Token.TheVariants.{Not, Temporal, End}
@@ -11,13 +11,7 @@ use Rattle.tokens.specs.Scans.{Scans}
 use Rattle.typed.specs.Grammar.{Typed, Spells, closest}
 use Rattle.typed.specs.Parses.{part, behind, Parses, a_closest, a_not, a_temporal}
 use Rattle.typed.proofs.Unique.{joined}
-
--- the token t stands at `at`, and `next` is the place behind it
-pub record Stands (text : List ℕ) (at : ℕ) (t : Token) (next : ℕ) : Type 0 where
-  pub token : (scanned (drop at text)).token ≡ t
-  pub left : (scanned (drop at text)).rest ≡ drop next text
-  pub ahead : at < next
-  pub inside : next ≤ length text
+use Rattle.rules.specs.Reading.{Stands}
 
 -- a token that was found stands there
 pub stands : (text : List ℕ) (at : ℕ) (r : Found) (t : Token) → (t ≡ End → ⊥) → Scans text at r → r.token ≡ t → Stands text at t r.next

@@ -1,5 +1,5 @@
 -- Parts that were read: a part that was begun, read to its end; and two parts joined.
-use mathlib.Core.Path.{◌≡◌, refl, sym, ap, ap₂, subst, ◌∙◌}
+use mathlib.Core.Path.{◌≡◌, refl, sym, ap, ap₂, ◌∙◌}
 use mathlib.Core.Bool.{Bool, true, false, not, true≢false}
 use mathlib.Core.List.{List, ◌++◌, append_assoc}
 use Prim.Native.Nat.{ℕ, ◌+◌, ◌-◌, ◌*◌, ◌≤◌}
@@ -14,17 +14,18 @@ use Rattle.typed.proofs.Unique.{joined, complete}
 use Rattle.rules.specs.declared.parts.Grade.{Grade}
 use Rattle.rules.specs.declared.parts.Grade.TheVariants.{Plain, Refused}
 use Rattle.rules.specs.declared.parts.Part.{Part}
-use Rattle.rules.specs.declared.parts.Outcome.{Outcome}
-use Rattle.rules.specs.declared.parts.Outcome.TheVariants.{Read, Wrong}
-use Rattle.rules.specs.Making.{record_room, front, turned_from, Turned, Unwound, entries, unwound}
+use Rattle.rules.specs.declared.records.Entry.{Entry}
+use Rattle.rules.specs.Making.{record_room, front, turned_from, Unwound, entries, unwound}
+use Rattle.rules.specs.declared.records.Store.{Store}
+use Rattle.rules.specs.Stores.{Negates, Unwinds}
 use Rattle.rules.specs.Grades.{worse, grade, prefixed}
-use Rattle.rules.specs.Reading.{Takes, Nothing, Reading, Begun}
+use Rattle.rules.specs.Reading.{Takes, Read, Begun}
 use Rattle.rules.proofs.Pile.{entries_kept, below_less}
 use Rattle.rules.proofs.Graded.{left_right, right_right, prefixed_right, under_right, untimed}
 use Rattle.rules.proofs.Turned.{turned_front}
 
 -- a part that was read, from its first token to its last
-pub parsed : {text : List ℕ} {r : Rank} {room at height count : ℕ} {rs ps : List ℕ} {p : Part} {rs' ps' : List ℕ} → (t : Takes text r room at height count rs ps p rs' ps')
+pub parsed : {text : List ℕ} {r : Rank} {room at height count : ℕ} {rs : List ℕ} {ps : List Entry} {p : Part} {rs' : List ℕ} {ps' : List Entry} → (t : Takes text r room at height count rs ps p rs' ps')
     → Ended r (drop p.next text) → Parses (part r) room (drop at text) t.tree (drop p.next text)
 parsed {r = closest} t e = complete t.reads t.spelled
 parsed {text} {r = conjunction} {p = p} t e = complete t.reads t.spelled t.tree (drop p.next text) (no_more_and e)
@@ -32,6 +33,36 @@ parsed {text} {r = disjunction} {p = p} t e = complete t.reads t.spelled e.0 t.t
 parsed {r = implication} t e = complete t.reads t.spelled e
 
 -- ---- negated in place
+-- the records from number n up to m were negated where the negations are odd in number
+pub record Turned (odd : Bool) (n m : ℕ) (rs rs' : List ℕ) : Type 0 where
+  pub stays : odd ≡ false → rs' ≡ rs
+  pub turns : odd ≡ true → m ≤ most_formulas → rs' ≡ turned_from rs n (m - n)
+
+-- as the code does it
+pub record NegatedIf (odd : Bool) (n : ℕ) (s s' : Store) : Type 0 where
+  pub turned : Turned odd n s.count s.records s'.records
+  pub counted : s'.count ≡ s.count
+  pub pending : s'.pending ≡ s.pending
+  pub height : s'.height ≡ s.height
+
+pub negated_so : {odd : Bool} {n : ℕ} {s s' : Store} → odd ≡ true → Negates n s s' → NegatedIf odd n s s'
+negated_so o x =
+    record {
+      turned = record { stays = λ e. absurd (true≢false (sym o ∙ e)); turns = λ e. x.turned };
+      counted = x.counted;
+      pending = x.pending;
+      height = x.height;
+    }
+
+pub negated_not : {odd : Bool} {n : ℕ} {s : Store} → odd ≡ false → NegatedIf odd n s s
+negated_not o =
+    record {
+      turned = record { stays = λ e. refl; turns = λ e. absurd (true≢false (sym e ∙ o)) };
+      counted = refl;
+      pending = refl;
+      height = refl;
+    }
+
 -- what stands in front of a part's records stays
 front_kept : (rs rs₀ xs : List ℕ) (n m : ℕ) → length rs₀ ≡ record_room → n ≤ m → m ≤ most_formulas → front rs m ≡ front rs₀ n ++ xs → front rs n ≡ front rs₀ n
 front_kept rs rs₀ xs n m long l room e =
@@ -59,8 +90,8 @@ behind_all true true n m rs₀ rs rs' f pair long₀ long e room right made t =
 behind_all true false n m rs₀ rs rs' f pair long₀ long e room right made t = absurd (true≢false (pair refl))
 
 -- ---- a part that was begun is read to its end
-module _ {text : List ℕ} {r : Rank} {room from height count : ℕ} {rs ps : List ℕ} {at h n : ℕ} {g : Grade} {nots odd : Bool} {rs' ps' : List ℕ}
-    (b : Begun text r room from height count rs ps at h n g nots odd rs' ps') {p : Part} {rs₁ ps₁ : List ℕ} (t : Takes text r room at h n rs' ps' p rs₁ ps₁)
+module _ {text : List ℕ} {r : Rank} {room from height count : ℕ} {rs : List ℕ} {ps : List Entry} {at h n : ℕ} {g : Grade} {nots odd : Bool} {rs' : List ℕ} {ps' : List Entry}
+    (b : Begun text r room from height count rs ps at h n g nots odd rs' ps') {p : Part} {rs₁ : List ℕ} {ps₁ : List Entry} (t : Takes text r room at h n rs' ps' p rs₁ ps₁)
     (long' : length rs' ≡ record_room) (long₁ : length rs₁ ≡ record_room) where
   -- its records: those made on the way, those of what was read, and those of its entries
   finished_made : (rs₂ : List ℕ) → Turned odd n p.count rs₁ rs₂ → {total : ℕ} {rs₃ : List ℕ} → Unwound rs₂ ps₁ height h p.count total rs₃
@@ -109,10 +140,16 @@ module _ {text : List ℕ} {r : Rank} {room from height count : ℕ} {rs ps : Li
         kept = below_less ps₁ ps' h height t.kept b.above ∙ b.kept;
       }
 
--- ---- what a reader answered
-module _ {text : List ℕ} {r : Rank} {room at height count : ℕ} {rs ps rs' ps' : List ℕ} (o : Outcome) (x : Reading text r room at height count rs ps o rs' ps') where
-  pub was_read : {p : Part} → o ≡ Read p → Takes text r room at height count rs ps p rs' ps' × Ended r (drop p.next text)
-  was_read e = subst (λ (k : Outcome). Reading text r room at height count rs ps k rs' ps') e x
-
-pub was_wrong : (text : List ℕ) (r : Rank) (room at height count : ℕ) (rs ps rs' ps' : List ℕ) (o : Outcome) → Reading text r room at height count rs ps o rs' ps' → o ≡ Wrong → Nothing r room (drop at text)
-was_wrong text r room at height count rs ps rs' ps' o x e = subst (λ (k : Outcome). Reading text r room at height count rs ps k rs' ps') e x
+-- and so it was read, where its entries have their records
+pub read_to_end : {text : List ℕ} {r : Rank} {room from at : ℕ} {s s' : Store} {g : Grade} {nots odd : Bool} {p : Part} {s₁ s₂ s₃ : Store} {k : Grade}
+    → Begun text r room from s.height s.count s.records s.pending at s'.height s'.count g nots odd s'.records s'.pending → Read text r room at s' p s₁ → Ended r (drop p.next text)
+    → NegatedIf odd s'.count s₁ s₂ → Unwinds s.height s₂ s₃ → k ≡ worse g (prefixed nots p.grade) → Read text r room from s (record { next = p.next; count = s₃.count; grade = k }) s₃
+read_to_end {s' = s'} {s₁ = s₁} {s₂} {k = k} b x e n u i =
+    record {
+      takes =
+          rw (u.pending ∙ n.pending)
+          (finished b x.takes s'.all_records s₁.all_records s₂.records (rw x.count at n.turned) (rw (n.pending, n.height ∙ x.height, n.counted ∙ x.count) at u.unwound) k i);
+      ends = e;
+      count = refl;
+      height = u.height;
+    }

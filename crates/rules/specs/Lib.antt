@@ -2,6 +2,7 @@
 -- other.
 pub mod Rules
 pub mod Making
+pub mod Stores
 pub mod Grades
 pub mod Reading
 pub mod Chains

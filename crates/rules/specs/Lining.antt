@@ -1,13 +1,11 @@
 -- Nobody has to believe this: the lines of a text as they are read.
-use Rattle.std.specs.Prelude.{◌≡◌, ◌&&◌, List, [], ◌∷◌, ◌++◌, ℕ, ◌+◌, ◌*◌, ◌≤◌, ◌<◌, leb, length, take}
+use Rattle.std.specs.Prelude.{◌≡◌, ◌&&◌, Option, Some, None, List, [], ◌∷◌, ◌++◌, ℕ, ◌+◌, ◌*◌, ◌≤◌, ◌<◌, leb, length, take}
 use Rattle.layout.specs.Sizes.{block_bytes, most_formulas, most_rules}
 use Rattle.refusals.specs.Refusals.{Test, first_failing}
 use Rattle.typed.specs.Grammar.{Typed, Lines}
 use Rattle.typed.specs.Records.{sizes, all_records, rules_from, forms_to}
 use Rattle.rules.specs.declared.parts.Grade.TheVariants.{Refused}
 use Rattle.rules.specs.declared.lines.Text.{Text}
-use Rattle.rules.specs.declared.lines.Outcome.{Outcome}
-use Rattle.rules.specs.declared.lines.Outcome.TheVariants.{Read, Wrong}
 use Rattle.rules.specs.Making.{front}
 use Rattle.rules.specs.Grades.{grades, allowed}
 use Rattle.rules.specs.Rules.{formulas_for}
@@ -29,9 +27,9 @@ pub record ReadAs (text : List ℕ) (t : Text) (rs us : List ℕ) : Type 0 where
   pub lines : Lines text rules
   pub holds : Holds rules t rs us
 
-abbrev pub Lining : List ℕ → Outcome → List ℕ → List ℕ → Type 0
-Lining text (Read t) rs us = ReadAs text t rs us
-Lining text Wrong rs us = (fs : List Typed) → Lines text fs → ⊥
+abbrev pub Lining : List ℕ → Option Text → List ℕ → List ℕ → Type 0
+Lining text (Some t) rs us = ReadAs text t rs us
+Lining text None rs us = (fs : List Typed) → Lines text fs → ⊥
 
 -- 20, 21 and 12 of what was read
 abbrev pub text_tests : Text → ℕ → List Test

@@ -1,17 +1,13 @@
--- Nobody has to believe this: records as they are made, one behind the other, and the entries that are pending. Each record is four bytes, and each entry two: the kind of its record
--- and its first operand.
-use Rattle.std.specs.Prelude.{◌≡◌, Bool, true, false, ◌||◌, cond, List, [], ◌∷◌, ◌++◌, ℕ, zero, suc, ◌+◌, ◌-◌, ◌*◌, ◌≤◌, ◌<◌, eqb, length, take, set}
+-- Nobody has to believe this: records as they are made, one behind the other, each of four bytes, and the entries that are pending.
+use Rattle.std.specs.Prelude.{◌≡◌, Bool, true, false, cond, List, [], ◌∷◌, ◌++◌, ℕ, zero, suc, ◌+◌, ◌-◌, ◌*◌, ◌≤◌, ◌<◌, eqb, length, slice_index_or, take, set}
 use Rattle.layout.specs.Sizes.{formula_bytes, most_formulas}
 use Rattle.layout.specs.Bytes.{byte}
-
-abbrev pub entry_bytes : ℕ
-entry_bytes = 2
+use Rattle.rules.specs.declared.records.Kind.{Kind}
+use Rattle.rules.specs.declared.records.Kind.TheVariants.{True, False, Proposition, Negated, And, Or, Next, Until, Always}
+use Rattle.rules.specs.declared.records.Entry.{Entry}
 
 abbrev pub record_room : ℕ
 record_room = formula_bytes * most_formulas
-
-abbrev pub pending_room : ℕ
-pending_room = entry_bytes * most_formulas
 
 -- the first n records
 abbrev pub front : List ℕ → ℕ → List ℕ
@@ -34,37 +30,56 @@ unfoldable pub turned_from : List ℕ → ℕ → ℕ → List ℕ
 turned_from rs i zero = rs
 turned_from rs i (suc n) = turned_from (turned_at rs i) (i + 1) n
 
--- the records from number n up to m were negated where the negations are odd in number
-pub record Turned (odd : Bool) (n m : ℕ) (rs rs' : List ℕ) : Type 0 where
-  pub stays : odd ≡ false → rs' ≡ rs
-  pub turns : odd ≡ true → m ≤ most_formulas → rs' ≡ turned_from rs n (m - n)
+-- ---- kinds
+abbrev pub number : Kind → ℕ
+number True = 1
+number False = 2
+number Proposition = 3
+number Negated = 4
+number And = 5
+number Or = 6
+number Next = 7
+number Until = 8
+number Always = 9
+
+-- AX and AG have one operand
+abbrev pub has_one : Kind → Bool
+has_one True = false
+has_one False = false
+has_one Proposition = false
+has_one Negated = false
+has_one And = false
+has_one Or = false
+has_one Next = true
+has_one Until = false
+has_one Always = true
 
 -- ---- pending entries
-pub record Entry : Type 0 where
-  pub kind : ℕ
-  pub a : ℕ
+-- behind the last stands this
+abbrev pub no_entry : Entry
+no_entry = record { kind = True; a = 0 }
 
-unfoldable pub entry : List ℕ → ℕ → Entry
-entry ps h = record { kind = byte ps (entry_bytes * h); a = byte ps (entry_bytes * h + 1) }
+abbrev pub entry : List Entry → ℕ → Entry
+entry ps h = slice_index_or ps h no_entry
 
 -- the first h entries
-abbrev pub below : List ℕ → ℕ → List ℕ
-below ps h = take (entry_bytes * h) ps
+abbrev pub below : List Entry → ℕ → List Entry
+below ps h = take h ps
 
 -- n entries from number h on
-unfoldable pub entries : List ℕ → ℕ → ℕ → List Entry
+unfoldable pub entries : List Entry → ℕ → ℕ → List Entry
 entries ps h zero = []
 entries ps h (suc n) = entry ps h ∷ entries ps (h + 1) n
 
-pub record Pushed (ps : List ℕ) (h kind a : ℕ) (ps' : List ℕ) : Type 0 where
+pub record Pushed (ps : List Entry) (h : ℕ) (e : Entry) (ps' : List Entry) : Type 0 where
   pub kept : below ps' h ≡ below ps h
-  pub pushed : h < most_formulas → entry ps' h ≡ record { kind = kind; a = a }
+  pub pushed : h < most_formulas → entry ps' h ≡ e
 
 -- the record of an entry, where n records are made: AX and AG have the last of these as operand, the others the entry's and it
 unfoldable pub closing : Entry → ℕ → List ℕ
-closing e n = cond (eqb e.kind 7 || eqb e.kind 9) (e.kind ∷ (n - 1) ∷ 0 ∷ 0 ∷ []) (e.kind ∷ e.a ∷ (n - 1) ∷ 0 ∷ [])
+closing e n = cond (has_one e.kind) (number e.kind ∷ (n - 1) ∷ 0 ∷ 0 ∷ []) (number e.kind ∷ e.a ∷ (n - 1) ∷ 0 ∷ [])
 
-abbrev pub Closed : List ℕ → List ℕ → ℕ → ℕ → List ℕ → Type 0
+abbrev pub Closed : List ℕ → List Entry → ℕ → ℕ → List ℕ → Type 0
 Closed rs ps h n rs' = h < most_formulas → Added rs n (closing (entry ps h) n) rs'
 
 -- the records of entries, the last entry's first
@@ -72,6 +87,6 @@ unfoldable pub unwound : ℕ → List Entry → List ℕ
 unwound n [] = []
 unwound n (e ∷ es) = unwound n es ++ closing e (n + length es)
 
-pub record Unwound (rs ps : List ℕ) (base height count r : ℕ) (rs' : List ℕ) : Type 0 where
+pub record Unwound (rs : List ℕ) (ps : List Entry) (base height count r : ℕ) (rs' : List ℕ) : Type 0 where
   pub counted : r ≡ count + (height - base)
   pub made : count + height ≤ most_formulas → front rs' r ≡ front rs count ++ unwound count (entries ps base (height - base))

@@ -1,5 +1,5 @@
 -- Nobody has to believe this: what the readers promise each other.
-use Rattle.std.specs.Prelude.{◌≡◌, Bool, true, false, not, List, [], ◌∷◌, ◌++◌, ℕ, ◌+◌, ◌-◌, ◌*◌, ◌%◌, ◌≤◌, ◌<◌, length, drop}
+use Rattle.std.specs.Prelude.{◌≡◌, Bool, true, false, not, Option, Some, None, List, [], ◌∷◌, ◌++◌, ℕ, ◌+◌, ◌-◌, ◌*◌, ◌%◌, ◌≤◌, ◌<◌, length, drop}
 use Rattle.layout.specs.Sizes.{most_formulas}
 use Rattle.tokens.specs.declared.Operator.{Operator}
 use Rattle.tokens.specs.declared.Operator.TheVariants.{Next, Always, Eventually}
@@ -7,26 +7,39 @@ use Rattle.tokens.specs.declared.Token.{Token}
 use Rattle.tokens.specs.declared.Token.TheVariants as token
 use Rattle.tokens.specs.Tokens.{scanned}
 use Rattle.typed.specs.Grammar.{Typed, Rank, closest, Reads, Spells}
-use Rattle.typed.specs.Parses.{part, Parses, Ended}
+use Rattle.typed.specs.Parses.{part, Parses, Ends, Ended}
 use Rattle.typed.specs.Records.{pushed, formula_for, size, records, forms_to}
 use Rattle.rules.specs.declared.parts.Grade.{Grade}
 use Rattle.rules.specs.declared.parts.Grade.TheVariants.{Plain, Refused}
 use Rattle.rules.specs.declared.parts.Part.{Part}
-use Rattle.rules.specs.declared.parts.Outcome.{Outcome}
-use Rattle.rules.specs.declared.parts.Outcome.TheVariants.{Read, Wrong}
 use Rattle.rules.specs.declared.prefixes.Prefixes.{Prefixes}
-use Rattle.rules.specs.Making.{record_room, pending_room, front, Added, Entry, entry, entries, below, unwound}
+use Rattle.rules.specs.declared.records.Kind.{Kind}
+use Rattle.rules.specs.declared.records.Kind.TheVariants as kind
+use Rattle.rules.specs.declared.records.Store.{Store}
+use Rattle.rules.specs.Stores.{Adds}
+use Rattle.rules.specs.declared.records.Entry.{Entry}
+use Rattle.rules.specs.Making.{number, front, entry, entries, below, unwound}
 use Rattle.rules.specs.Grades.{worse, grade, prefixed}
 
+-- the token t stands at `at`, and `next` is the place behind it
+pub record Stands (text : List ℕ) (at : ℕ) (t : Token) (next : ℕ) : Type 0 where
+  pub token : (scanned (drop at text)).token ≡ t
+  pub left : (scanned (drop at text)).rest ≡ drop next text
+  pub ahead : at < next
+  pub inside : next ≤ length text
+
+-- whether it does
+abbrev pub Expecting : List ℕ → ℕ → Token → Option ℕ → Type 0
+Expecting text at t (Some next) = Stands text at t next
+Expecting text at t None = Ends t (drop at text)
+
 -- Where a reader begins: a place of the text. Two of the records and pending entries at most are made for each byte of it.
-pub record Begins (text : List ℕ) (at height count : ℕ) (rs ps : List ℕ) : Type 0 where
+pub record Begins (text : List ℕ) (at : ℕ) (s : Store) : Type 0 where
   pub inside : at ≤ length text
-  pub slim : count + height ≤ 2 * at
-  pub all_records : length rs ≡ record_room
-  pub all_pending : length ps ≡ pending_room
+  pub slim : s.count + s.height ≤ 2 * at
 
 -- A part of a rank was read. Its records stand behind the others where 20 doesn't refuse it, and they and those of the pending entries have room.
-pub record Takes (text : List ℕ) (r : Rank) (room at height count : ℕ) (rs ps : List ℕ) (p : Part) (rs' ps' : List ℕ) : Type 0 where
+pub record Takes (text : List ℕ) (r : Rank) (room at height count : ℕ) (rs : List ℕ) (ps : List Entry) (p : Part) (rs' : List ℕ) (ps' : List Entry) : Type 0 where
   pub tree : Typed
   pub tokens : List Token
   pub spelled : Spells (drop at text) tokens (drop p.next text)
@@ -43,14 +56,21 @@ pub record Takes (text : List ℕ) (r : Rank) (room at height count : ℕ) (rs p
 abbrev pub Nothing : Rank → ℕ → List ℕ → Type 0
 Nothing r room s = (f : Typed) (s' : List ℕ) → Parses (part r) room s f s' → ⊥
 
-abbrev pub Reading : List ℕ → Rank → ℕ → ℕ → ℕ → ℕ → List ℕ → List ℕ → Outcome → List ℕ → List ℕ → Type 0
-Reading text r room at height count rs ps (Read p) rs' ps' = Takes text r room at height count rs ps p rs' ps' × Ended r (drop p.next text)
-Reading text r room at height count rs ps Wrong rs' ps' = Nothing r room (drop at text)
+-- A part was read, with as many records as it says, and the pile is as high as it was; or none stands there.
+pub record Read (text : List ℕ) (r : Rank) (room at : ℕ) (s : Store) (p : Part) (s' : Store) : Type 0 where
+  pub takes : Takes text r room at s.height s.count s.records s.pending p s'.records s'.pending
+  pub ends : Ended r (drop p.next text)
+  pub count : s'.count ≡ p.count
+  pub height : s'.height ≡ s.height
+
+abbrev pub Reading : List ℕ → Rank → ℕ → ℕ → Store → Option Part → Store → Type 0
+Reading text r room at s (Some p) s' = Read text r room at s p s'
+Reading text r room at s None s' = Nothing r room (drop at text)
 
 -- a name or a constant: one record
-pub record Leaf (kind a count next : ℕ) (rs : List ℕ) (p : Part) (rs' : List ℕ) : Type 0 where
-  pub part : p ≡ record { next = next; count = count + 1; grade = Plain }
-  pub added : Added rs count (kind ∷ a % 256 ∷ 0 ∷ 0 ∷ []) rs'
+pub record Leaf (kind : Kind) (a next : ℕ) (s : Store) (p : Part) (s' : Store) : Type 0 where
+  pub part : p ≡ record { next = next; count = s.count + 1; grade = Plain }
+  pub adds : Adds (number kind ∷ a % 256 ∷ 0 ∷ 0 ∷ []) s s'
 
 -- ---- prefixes
 abbrev pub is_prefix : Token → Bool
@@ -84,18 +104,23 @@ true_bytes Always = []
 true_bytes Eventually = 1 ∷ 0 ∷ 0 ∷ 0 ∷ []
 
 abbrev pub opening : Operator → ℕ → Entry
-opening Next n = record { kind = 7; a = 0 }
-opening Always n = record { kind = 9; a = 0 }
-opening Eventually n = record { kind = 8; a = n }
+opening Next n = record { kind = kind.Next; a = 0 }
+opening Always n = record { kind = kind.Always; a = 0 }
+opening Eventually n = record { kind = kind.Until; a = n }
 
-pub record Pended (o : Operator) (h n : ℕ) (rs ps rs' ps' : List ℕ) : Type 0 where
+pub record Pended (o : Operator) (h n : ℕ) (rs : List ℕ) (ps : List Entry) (rs' : List ℕ) (ps' : List Entry) : Type 0 where
   pub made : n + trues o ≤ most_formulas → front rs' (n + trues o) ≡ front rs n ++ true_bytes o
   pub kept : below ps' h ≡ below ps h
   pub pushed : h < most_formulas → n < most_formulas → entry ps' h ≡ opening o n
 
+pub record Pends (o : Operator) (s s' : Store) : Type 0 where
+  pub pended : Pended o s.height s.count s.records s.pending s'.records s'.pending
+  pub count : s'.count ≡ s.count + trues o
+  pub height : s'.height ≡ s.height + 1
+
 -- A part is begun: from `from` to `at` stand its prefixes, or the left parts of its arrows. `plug` makes the whole of what is still to be read. h entries are pending and n records
 -- made; the part is at least as bad as g; `nots` says whether a negation is among the prefixes, `odd` whether they are odd in number.
-pub record Begun (text : List ℕ) (r : Rank) (room from height count : ℕ) (rs ps : List ℕ) (at h n : ℕ) (g : Grade) (nots odd : Bool) (rs' ps' : List ℕ) : Type 0 where
+pub record Begun (text : List ℕ) (r : Rank) (room from height count : ℕ) (rs : List ℕ) (ps : List Entry) (at h n : ℕ) (g : Grade) (nots odd : Bool) (rs' : List ℕ) (ps' : List Entry) : Type 0 where
   pub plug : Typed → Typed
   pub tokens : List Token
   pub bytes : List ℕ
@@ -115,6 +140,6 @@ pub record Begun (text : List ℕ) (r : Rank) (room from height count : ℕ) (rs
   pub kept : below ps' height ≡ below ps height
 
 -- all the prefixes of a closest part
-pub record Prefixing (text : List ℕ) (from height count : ℕ) (rs ps : List ℕ) (p : Prefixes) (rs' ps' : List ℕ) : Type 0 where
-  pub begun : (room : ℕ) → Begun text closest room from height count rs ps p.next p.height p.count p.grade p.negations p.odd rs' ps'
+pub record Prefixing (text : List ℕ) (from : ℕ) (s : Store) (p : Prefixes) (s' : Store) : Type 0 where
+  pub begun : (room : ℕ) → Begun text closest room from s.height s.count s.records s.pending p.next s'.height s'.count p.grade p.negations p.odd s'.records s'.pending
   pub stopped : is_prefix (scanned (drop p.next text)).token ≡ false

@@ -11,17 +11,16 @@ mod readers;
 mod records;
 
 use layout::{blocks, sizes};
-use lines::Outcome;
+use records::Store;
 use refusals::refusal::Refusal;
 
 // The blocks of kinds 3 and 4 that are made of a text; the answer is how many rules it has.
 pub fn rules(text: &[u8], res: &mut [u8]) -> Result<usize, Refusal>
     ensures { Ruling text.now res.old result res.new }
 {
-    let mut made = [0u8; records::RECORD_ROOM];
-    let mut pending = [0u8; records::PENDING_ROOM];
+    let mut store = Store::new();
     let mut numbers = [0u8; sizes::MOST_RULES];
-    let Outcome::Read(read) = lines::read_lines(text, &mut made, &mut pending, &mut numbers) else {
+    let Some(read) = lines::read_lines(text, &mut store, &mut numbers) else {
         return Err(Refusal::Text);
     };
     lines::text_refusal(read, res.len())?;
@@ -33,7 +32,7 @@ pub fn rules(text: &[u8], res: &mut [u8]) -> Result<usize, Refusal>
         3,
         count as u8,
         0,
-        &made,
+        &store.records,
         0,
         sizes::FORMULA_BYTES * count,
     );

@@ -2,11 +2,11 @@
 ghost use Rattle.std.specs.Prelude.{◌≡◌, ◌%◌, length};
 ghost use Rattle.layout.specs.Sizes.{most_rules};
 ghost use Rattle.refusals.specs.Answered.{refusal_of};
-ghost use Rattle.rules.specs.Making.{record_room, pending_room};
 ghost use Rattle.rules.specs.Lining.{Ruled, Lining, text_refusal};
 
 use crate::parts::Grade;
-use crate::{parts, readers};
+use crate::readers;
+use crate::records::Store;
 use layout::sizes;
 use refusals::refusal::Refusal;
 use tokens::Token;
@@ -22,12 +22,6 @@ pub struct Text {
     pub grade: Grade,
 }
 
-#[derive(Clone, Copy)]
-pub enum Outcome {
-    Read(Text),
-    Wrong,
-}
-
 // Rule number n is record number r.
 fn put_rule(rules: &mut [u8], n: usize, r: usize)
     requires { length rules.old ≡ most_rules }
@@ -38,52 +32,38 @@ fn put_rule(rules: &mut [u8], n: usize, r: usize)
     }
 }
 
-pub fn read_lines(text: &[u8], records: &mut [u8], pending: &mut [u8], rules: &mut [u8]) -> Outcome
-    requires { (length records.old ≡ record_room) × (length pending.old ≡ pending_room) × (length rules.old ≡ most_rules) }
-    ensures { Lining text.now result records.new rules.new }
+// None, where some line isn't a rule.
+pub fn read_lines(text: &[u8], store: &mut Store, rules: &mut [u8]) -> Option<Text>
+    requires { (store.old.count ≡ 0) × (store.old.height ≡ 0) × (length rules.old ≡ most_rules) }
+    ensures { Lining text.now result store.new.records rules.new }
 {
+    let mut read = Text {
+        rules: 0,
+        count: 0,
+        grade: Grade::Plain,
+    };
     let mut at = 0;
-    let mut n = 0;
-    let mut count = 0;
-    let mut grade = Grade::Plain;
     // The lines before `at` are read.
     while at < text.len() {
-        let parts::Outcome::Read(part) = readers::read_implication(
-            text, at, MOST_DEPTH, records, pending, 0, count,
-        ) else {
-            return Outcome::Wrong;
-        };
-        let own = part.grade;
-        let found = tokens::scan(text, part.next);
-        let token = found.token;
-        let Token::Line = token else {
-            return Outcome::Wrong;
-        };
-        put_rule(rules, n, part.count - 1);
-        grade = parts::worse_of(grade, own);
-        n += 1;
-        count = part.count;
-        at = found.next;
+        let part = readers::read_implication(text, at, MOST_DEPTH, store)?;
+        at = readers::expect(text, part.next, Token::Line)?;
+        put_rule(rules, read.rules, part.count - 1);
+        read.rules += 1;
+        read.count = part.count;
+        read.grade = read.grade.max(part.grade);
     }
-    Outcome::Read(Text {
-        rules: n,
-        count,
-        grade,
-    })
+    Some(read)
 }
 
 // The first of 20, 21 and 12 that holds of what was read, with so much room lent for the blocks.
+#[tactic(auto, unfolding(crate::specs::Lining::text_refusal, refusals::specs::Refusals::first_failing))]
 pub fn text_refusal(t: Text, room: usize) -> Result<(), Refusal>
     ensures { refusal_of result ≡ text_refusal t room }
 {
-    let grade = t.grade;
-    if let Grade::Refused = grade {
+    if t.grade == Grade::Refused {
         return Err(Refusal::Existential);
     }
-    if sizes::MOST_FORMULAS < t.count {
-        return Err(Refusal::TextSize);
-    }
-    if sizes::MOST_RULES < t.rules {
+    if sizes::MOST_FORMULAS < t.count || sizes::MOST_RULES < t.rules {
         return Err(Refusal::TextSize);
     }
     if room < 2 * sizes::BLOCK_BYTES {

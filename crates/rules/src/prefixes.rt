@@ -1,43 +1,33 @@
 // The prefixes of a closest part, in a loop.
-ghost use Rattle.std.specs.Prelude.{◌≡◌, true, not, ◌+◌, ◌≤◌, ◌<◌, ◌^◌, length};
-ghost use Rattle.rules.specs.Making.{record_room, pending_room};
-ghost use Rattle.rules.specs.Grades.{worse, asked_behind};
-ghost use Rattle.rules.specs.Reading.{Begins, trues, Pended, Prefixing};
+ghost use Rattle.std.specs.Prelude.{◌≡◌, ◌+◌, ◌<◌, ◌^◌};
+ghost use Rattle.rules.specs.Grades.{asked_behind};
+ghost use Rattle.rules.specs.Reading.{Begins, Pends, Prefixing};
 
-use crate::parts::Grade;
-use crate::{parts, records};
+use crate::parts::{self, Grade};
+use crate::records::{Kind, Store};
 use tokens::{Operator, Quantifier, Token};
 
-// The place behind the prefixes, the height of the pile of pending entries and the number of records then, the grade that they give the part at least, whether there is a
-// negation among them, and whether they are odd in number.
+// The place behind the prefixes, the grade that they give the part at least, whether there is a negation among them, and whether they are odd in number.
 #[derive(Clone, Copy)]
 pub struct Prefixes {
     pub next: usize,
-    pub height: usize,
-    pub count: usize,
     pub grade: Grade,
     pub negations: bool,
     pub odd: bool,
 }
 
-// The record that an operator makes before those of its operand, and its entry. Returns how many records there are then.
-fn pend(records: &mut [u8], pending: &mut [u8], o: Operator, height: usize, count: usize) -> usize
-    requires { (length records.old ≡ record_room) × (length pending.old ≡ pending_room) × (count + 1 < 2 ^ 64) }
-    ensures { (result ≡ count + trues o) × Pended o height count records.old pending.old records.new pending.new }
+// The record that an operator makes before those of its operand, and its entry.
+fn pend(store: &mut Store, o: Operator)
+    requires { (store.old.count + 1 < 2 ^ 64) × (store.old.height + 1 < 2 ^ 64) }
+    ensures { Pends o store.old store.new }
 {
     match o {
-        Operator::Next => {
-            records::push(pending, height, 7, 0);
-            count
-        }
-        Operator::Always => {
-            records::push(pending, height, 9, 0);
-            count
-        }
+        Operator::Next => store.push(Kind::Next, 0),
+        Operator::Always => store.push(Kind::Always, 0),
         Operator::Eventually => {
-            records::add(records, count, 1, 0, 0);
-            records::push(pending, height, 8, count);
-            count + 1
+            let first = store.count;
+            store.add(Kind::True, 0, 0);
+            store.push(Kind::Until, first);
         }
     }
 }
@@ -47,54 +37,36 @@ fn asked_grade(negations: bool, q: Quantifier) -> Grade
     ensures { result ≡ asked_behind negations q }
 {
     if negations {
-        return Grade::Refused;
+        Grade::Refused
+    } else {
+        parts::asked_by(q)
     }
-    parts::asked_by(q)
 }
 
-pub fn read_prefixes(
-    text: &[u8],
-    from: usize,
-    records: &mut [u8],
-    pending: &mut [u8],
-    height: usize,
-    count: usize,
-) -> Prefixes
-    requires { Begins text.now from height count records.old pending.old }
-    ensures { Prefixing text.now from height count records.old pending.old result records.new pending.new }
+pub fn read_prefixes(text: &[u8], from: usize, store: &mut Store) -> Prefixes
+    requires { Begins text.now from store.old }
+    ensures { Prefixing text.now from store.old result store.new }
 {
-    let mut at = from;
-    let mut h = height;
-    let mut n = count;
-    let mut grade = Grade::Plain;
-    let mut negations = false;
-    let mut odd = false;
-    // From `from` to `at` there are prefixes.
+    let mut begun = Prefixes {
+        next: from,
+        grade: Grade::Plain,
+        negations: false,
+        odd: false,
+    };
+    // From `from` to begun.next there are prefixes.
     loop {
-        let found = tokens::scan(text, at);
-        let token = found.token;
-        match token {
+        let found = tokens::scan(text, begun.next);
+        match found.token {
             Token::Not => {
-                negations = true;
-                odd = !odd;
-                at = found.next;
+                begun.negations = true;
+                begun.odd = !begun.odd;
             }
             Token::Temporal(q, o) => {
-                n = pend(records, pending, o, h, n);
-                h += 1;
-                grade = parts::worse_of(grade, asked_grade(negations, q));
-                at = found.next;
+                pend(store, o);
+                begun.grade = begun.grade.max(asked_grade(begun.negations, q));
             }
-            _ => {
-                return Prefixes {
-                    next: at,
-                    height: h,
-                    count: n,
-                    grade,
-                    negations,
-                    odd,
-                };
-            }
+            _ => return begun,
         }
+        begun.next = found.next;
     }
 }

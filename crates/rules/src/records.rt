@@ -1,153 +1,150 @@
 // Records as they are made: each is put behind the last, as far as there is room for 64. What a prefix or the left of an implication will still need is kept in a pile of pending
 // entries, of which each makes one record more, so there is room for as many of them.
-ghost use Rattle.std.specs.Prelude.{◌≡◌, [], ◌∷◌, ◌+◌, ◌-◌, ◌%◌, ◌≤◌, ◌<◌, ◌^◌, ◌||◌, eqb, length};
-ghost use Rattle.layout.specs.Sizes.{most_formulas};
-ghost use Rattle.rules.specs.Making.{record_room, pending_room, Added, Pushed, closing, Closed, Unwound, opposite_kind, turned_from, Turned};
+ghost use Rattle.std.specs.Prelude.{◌≡◌, [], ◌∷◌, ◌+◌, ◌%◌, ◌≤◌, ◌<◌, ◌^◌, length};
+ghost use Rattle.rules.specs.Making.{record_room, number, opposite_kind};
 
 use layout::sizes;
 
-// Bytes of a pending entry: the kind of its record, and its first operand.
-pub const ENTRY_BYTES: usize = 2;
-
 pub const RECORD_ROOM: usize = sizes::FORMULA_BYTES * sizes::MOST_FORMULAS;
 
-pub const PENDING_ROOM: usize = ENTRY_BYTES * sizes::MOST_FORMULAS;
+// The kinds of formulas, by the numbers that their records have.
+#[derive(Clone, Copy, PartialEq, Eq, Debug)]
+pub enum Kind {
+    True = 1,
+    False = 2,
+    Proposition = 3,
+    Negated = 4,
+    And = 5,
+    Or = 6,
+    Next = 7,
+    Until = 8,
+    Always = 9,
+}
 
-// Record number `count`.
-pub fn add(records: &mut [u8], count: usize, kind: u8, a: usize, b: usize)
-    requires { length records.old ≡ record_room }
-    ensures { Added records.old count (kind ∷ a % 256 ∷ b % 256 ∷ 0 ∷ []) records.new }
-{
-    if count < sizes::MOST_FORMULAS {
-        let at = sizes::FORMULA_BYTES * count;
-        records[at] = kind;
-        records[at + 1] = (a % 256) as u8;
-        records[at + 2] = (b % 256) as u8;
-        records[at + 3] = 0;
+impl Kind {
+    // A record's first byte.
+    fn number(self) -> u8
+        ensures { result ≡ number self }
+    {
+        self as u8
     }
 }
 
-// ---- negation
+// What will make a record: its kind, and its first operand.
+#[derive(Clone, Copy)]
+pub struct Entry {
+    pub kind: Kind,
+    pub a: u8,
+}
 
-// The kind of the negated formula: true and false, a proposition and its negation, and and or change places.
+// The records and how many there are, also of those that have no room; and the pending entries, and how high their pile is.
+#[derive(Drop)]
+pub struct Store {
+    pub records: [u8; RECORD_ROOM],
+    pub count: usize,
+    pub pending: [Entry; sizes::MOST_FORMULAS],
+    pub height: usize,
+    // What the type says, for the proofs of those that are lent a store.
+    ghost all_records: { length records ≡ record_room },
+}
+
+// The kind of the negated formula, as a record's byte: true and false, a proposition and its negation, and and or change places.
+#[tactic(auto, unfolding(crate::specs::Making::opposite_kind))]
 fn opposite(kind: u8) -> u8
     ensures { result ≡ opposite_kind kind }
 {
-    if kind == 1 {
-        return 2;
-    }
-    if kind == 2 {
-        return 1;
-    }
-    if kind == 3 {
-        return 4;
-    }
-    if kind == 4 {
-        return 3;
-    }
-    if kind == 5 {
-        return 6;
-    }
-    if kind == 6 {
-        return 5;
-    }
-    kind
-}
-
-fn least(a: usize, b: usize) -> usize
-    ensures { (result ≤ a) × (result ≤ b) × (a ≤ b → result ≡ a) }
-{
-    if a <= b {
-        return a;
-    }
-    b
-}
-
-// The records from number `from` up to `to` are negated, as far as there was room for them.
-pub fn negate(records: &mut [u8], from: usize, to: usize)
-    requires { length records.old ≡ record_room }
-    ensures { to ≤ most_formulas → records.new ≡ turned_from records.old from (to - from) }
-{
-    let end = least(to, sizes::MOST_FORMULAS);
-    let mut i = from;
-    // Those up to i are.
-    while i < end {
-        let at = sizes::FORMULA_BYTES * i;
-        records[at] = opposite(records[at]);
-        i += 1;
+    match kind {
+        1 => 2,
+        2 => 1,
+        3 => 4,
+        4 => 3,
+        5 => 6,
+        6 => 5,
+        _ => kind,
     }
 }
 
-// The same where the negations before them are odd in number.
-pub fn negate_odd(odd: bool, records: &mut [u8], from: usize, to: usize)
-    requires { length records.old ≡ record_room }
-    ensures { Turned odd from to records.old records.new }
-{
-    if odd {
-        negate(records, from, to);
-    }
-}
+impl Store {
+    ghost use Rattle.rules.specs.Stores.{Adds, Negates, Pushes, Pops, Unwinds};
 
-// ---- pending entries
-
-// Entry number `height`.
-pub fn push(pending: &mut [u8], height: usize, kind: u8, a: usize)
-    requires { length pending.old ≡ pending_room }
-    ensures { Pushed pending.old height kind (a % 256) pending.new }
-{
-    if height < sizes::MOST_FORMULAS {
-        let at = ENTRY_BYTES * height;
-        pending[at] = kind;
-        pending[at + 1] = (a % 256) as u8;
+    pub fn new() -> Self
+        ensures { (result.count ≡ 0) × (result.height ≡ 0) }
+    {
+        let none = Entry {
+            kind: Kind::True,
+            a: 0,
+        };
+        Store {
+            records: [0; RECORD_ROOM],
+            count: 0,
+            pending: [none; sizes::MOST_FORMULAS],
+            height: 0,
+        }
     }
-}
 
-// Whether the last record is the only operand: AX and AG.
-fn has_one(kind: u8) -> bool
-    ensures { result ≡ (eqb kind 7 || eqb kind 9) }
-{
-    if kind == 7 {
-        return true;
+    // One record more.
+    pub fn add(&mut self, kind: Kind, a: usize, b: usize)
+        requires { self.old.count + 1 < 2 ^ 64 }
+        ensures { Adds (number kind ∷ a % 256 ∷ b % 256 ∷ 0 ∷ []) self.old self.new }
+    {
+        if self.count < sizes::MOST_FORMULAS {
+            let at = sizes::FORMULA_BYTES * self.count;
+            let record = [kind.number(), (a % 256) as u8, (b % 256) as u8, 0];
+            self.records[at..at + sizes::FORMULA_BYTES].copy_from_slice(&record);
+        }
+        self.count += 1;
     }
-    kind == 9
-}
 
-// The record of an entry, whose last operand is the last of the n records made.
-fn add_last(records: &mut [u8], n: usize, kind: u8, a: usize)
-    requires { (length records.old ≡ record_room) × (1 ≤ n) × (a < 256) }
-    ensures { Added records.old n (closing (record { kind = kind; a = a }) n) records.new }
-{
-    if has_one(kind) {
-        add(records, n, kind, n - 1, 0);
-    } else {
-        add(records, n, kind, a, n - 1);
+    // The records from number `from` on are negated, where there was room for all of them.
+    pub fn negate(&mut self, from: usize)
+        ensures { Negates from self.old self.new }
+    {
+        for i in from..self.count.min(sizes::MOST_FORMULAS) {
+            let at = sizes::FORMULA_BYTES * i;
+            self.records[at] = opposite(self.records[at]);
+        }
     }
-}
 
-// The record of entry number `height`.
-fn close(records: &mut [u8], pending: &[u8], height: usize, n: usize)
-    requires { (length records.old ≡ record_room) × (length pending.now ≡ pending_room) × (1 ≤ n) }
-    ensures { Closed records.old pending.now height n records.new }
-{
-    if height < sizes::MOST_FORMULAS {
-        let at = ENTRY_BYTES * height;
-        let a = pending[at + 1] as usize;
-        add_last(records, n, pending[at], a);
+    // One entry more.
+    pub fn push(&mut self, kind: Kind, a: usize)
+        requires { self.old.height + 1 < 2 ^ 64 }
+        ensures { Pushes (record { kind = kind; a = a % 256 }) self.old self.new }
+    {
+        if self.height < sizes::MOST_FORMULAS {
+            self.pending[self.height] = Entry {
+                kind,
+                a: (a % 256) as u8,
+            };
+        }
+        self.height += 1;
     }
-}
 
-// The records of the entries from number `base` on, the last entry's first. Returns how many records there are then.
-pub fn unwind(records: &mut [u8], pending: &[u8], base: usize, height: usize, count: usize) -> usize
-    requires { (length records.old ≡ record_room) × (length pending.now ≡ pending_room) × (1 ≤ count) × (base ≤ height) × (count + height < 2 ^ 64) }
-    ensures { Unwound records.old pending.now base height count result records.new }
-{
-    let mut h = height;
-    let mut n = count;
-    // The entries from h on have their records.
-    while base < h {
-        h -= 1;
-        close(records, pending, h, n);
-        n += 1;
+    // The record of the last entry, of which the last record is the last operand, and the only one of AX and AG. The pile is lower by it.
+    #[tactic(auto, unfolding(crate::specs::Making::entry, crate::specs::Making::closing))]
+    fn pop(&mut self)
+        requires { (1 ≤ self.old.height) × (1 ≤ self.old.count) × (self.old.count + 1 < 2 ^ 64) }
+        ensures { Pops self.old self.new }
+    {
+        self.height -= 1;
+        let last = self.count - 1;
+        if self.height < sizes::MOST_FORMULAS {
+            let Entry { kind, a } = self.pending[self.height];
+            match kind {
+                Kind::Next | Kind::Always => self.add(kind, last, 0),
+                _ => self.add(kind, usize::from(a), last),
+            }
+        } else {
+            self.count += 1;
+        }
     }
-    n
+
+    // The records of the entries from number `base` on, the last entry's first.
+    pub fn unwind(&mut self, base: usize)
+        requires { (1 ≤ self.old.count) × (base ≤ self.old.height) × (self.old.count + self.old.height < 2 ^ 64) }
+        ensures { Unwinds base self.old self.new }
+    {
+        while base < self.height {
+            self.pop();
+        }
+    }
 }

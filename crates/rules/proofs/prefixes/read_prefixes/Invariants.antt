@@ -1,22 +1,18 @@
-use mathlib.Core.Path.{◌≡◌}
-use mathlib.Core.Bool.{Bool}
 use mathlib.Core.List.{List}
 use Prim.Native.Nat.{ℕ, ◌-◌}
 use lib.ListN.{length}
 use Rattle.typed.specs.Grammar.{closest}
-use Rattle.rules.specs.declared.parts.Grade.{Grade}
-use Rattle.rules.specs.Making.{record_room, pending_room}
+use Rattle.rules.specs.declared.prefixes.Prefixes.{Prefixes}
+use Rattle.rules.specs.declared.records.Store.{Store}
 use Rattle.rules.specs.Reading.{Begun}
 use Rattle.rules.proofs.prefixes.read_prefixes.Given as goal
 
-pub record Beginning (text : List ℕ) (from : ℕ) (rs₀ ps₀ : List ℕ) (height count : ℕ) (rs ps : List ℕ) (at h n : ℕ) (g : Grade) (nots odd : Bool) : Type 0 where
-  pub all_records : length rs ≡ record_room
-  pub all_pending : length ps ≡ pending_room
-  pub begun : (room : ℕ) → Begun text closest room from height count rs₀ ps₀ at h n g nots odd rs ps
+-- a closest part is begun
+pub record Beginning (text : List ℕ) (from : ℕ) (s₀ : Store) (p : Prefixes) (s : Store) : Type 0 where
+  pub begun : (room : ℕ) → Begun text closest room from s₀.height s₀.count s₀.records s₀.pending p.next s.height s.count p.grade p.negations p.odd s.records s.pending
 
-abbrev pub invariant-loop-negations : goal.invariant-loop-negations
-invariant-loop-negations l =
-    Beginning l.text l.from l.initial.records l.initial.pending l.height l.count l.records l.pending l.at l.h l.n l.grade l.negations l.odd
+abbrev pub invariant-loop-begun : goal.invariant-loop-begun
+invariant-loop-begun l = Beginning l.text l.from l.fn.store l.begun l.store
 
-abbrev pub decreases-loop-negations : goal.decreases-loop-negations
-decreases-loop-negations l = length l.text - l.at
+abbrev pub decreases-loop-begun : goal.decreases-loop-begun
+decreases-loop-begun l = length l.text - l.begun.next

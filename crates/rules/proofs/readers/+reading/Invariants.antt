@@ -2,59 +2,56 @@
 use mathlib.Core.Path.{◌≡◌}
 use mathlib.Core.Bool.{false}
 use mathlib.Core.List.{List}
-use Prim.Native.Nat.{ℕ, ◌+◌, ◌-◌, ◌*◌, ◌≤◌}
+use Prim.Native.Nat.{ℕ, ◌+◌, ◌-◌, ◌*◌}
 use lib.ListN.{length}
 use Rattle.typed.specs.Grammar.{implication}
 use Rattle.rules.specs.declared.parts.Grade.{Grade}
-use Rattle.rules.specs.Making.{record_room, pending_room}
+use Rattle.rules.specs.declared.parts.Part.{Part}
+use Rattle.rules.specs.declared.readers.Connective.{Connective}
+use Rattle.rules.specs.declared.records.Store.{Store}
 use Rattle.rules.specs.Reading.{Begun}
-use Rattle.rules.specs.Chains.{conjunctive, disjunctive}
-use Rattle.rules.proofs.Chained.{Chaining}
+use Rattle.rules.proofs.Chained.{Chained, inner_place}
 use Rattle.rules.proofs.readers.+reading.Given as goal
 
-abbrev pub decreases-read_atom : goal.decreases-read_atom
-decreases-read_atom l = 7 * l.room + 2
+abbrev pub decreases-read_until : goal.decreases-read_until
+decreases-read_until l = 9 * l.room + 1
 
 abbrev pub decreases-read_bracketed : goal.decreases-read_bracketed
-decreases-read_bracketed l = 7 * l.room + 1
+decreases-read_bracketed l = 9 * l.room + 1
+
+abbrev pub decreases-read_atom : goal.decreases-read_atom
+decreases-read_atom l = 9 * l.room + 2
 
 abbrev pub decreases-read_closest : goal.decreases-read_closest
-decreases-read_closest l = 7 * l.room + 3
+decreases-read_closest l = 9 * l.room + 3
 
-abbrev pub decreases-read_conjunction : goal.decreases-read_conjunction
-decreases-read_conjunction l = 7 * l.room + 4
+abbrev pub decreases-read_link : goal.decreases-read_link
+decreases-read_link l = 9 * l.room + inner_place l.chain
 
-abbrev pub decreases-read_disjunction : goal.decreases-read_disjunction
-decreases-read_disjunction l = 7 * l.room + 5
+abbrev pub decreases-read_chain : goal.decreases-read_chain
+decreases-read_chain l = 9 * l.room + inner_place l.chain + 1
 
 abbrev pub decreases-read_implication : goal.decreases-read_implication
-decreases-read_implication l = 7 * l.room + 6
+decreases-read_implication l = 9 * l.room + 8
 
-abbrev pub decreases-read_until : goal.decreases-read_until
-decreases-read_until l = 7 * l.room + 1
+-- from `at` on a chain was read
+pub record Chaining (c : Connective) (text : List ℕ) (room at : ℕ) (s₀ : Store) (p : Part) (s : Store) : Type 0 where
+  pub chained : Chained c text room at s₀.height s₀.count s₀.records s₀.pending p s.records s.pending
+  pub count : s.count ≡ p.count
+  pub height : s.height ≡ s₀.height
 
-abbrev pub invariant-read_conjunction-loop-records : goal.invariant-read_conjunction-loop-records
-invariant-read_conjunction-loop-records l =
-    Chaining conjunctive l.text l.room l.at l.height l.count l.initial.part l.initial.records l.initial.pending l.part l.records l.pending × (l.part.next ≤ length l.text)
+abbrev pub invariant-read_chain-loop-next : goal.invariant-read_chain-loop-next
+invariant-read_chain-loop-next l = Chaining l.chain l.text l.room l.at l.fn.store l.part l.store
 
-abbrev pub decreases-read_conjunction-loop-records : goal.decreases-read_conjunction-loop-records
-decreases-read_conjunction-loop-records l = length l.text - l.part.next
-
-abbrev pub invariant-read_disjunction-loop-records : goal.invariant-read_disjunction-loop-records
-invariant-read_disjunction-loop-records l =
-    Chaining disjunctive l.text l.room l.at l.height l.count l.initial.part l.initial.records l.initial.pending l.part l.records l.pending × (l.part.next ≤ length l.text)
-
-abbrev pub decreases-read_disjunction-loop-records : goal.decreases-read_disjunction-loop-records
-decreases-read_disjunction-loop-records l = length l.text - l.part.next
+abbrev pub decreases-read_chain-loop-next : goal.decreases-read_chain-loop-next
+decreases-read_chain-loop-next l = length l.text - l.part.next
 
 -- from `at` to `from` an implication is begun
-pub record Implying (text : List ℕ) (at room : ℕ) (rs₀ ps₀ : List ℕ) (height count : ℕ) (rs ps : List ℕ) (from h n : ℕ) (g : Grade) : Type 0 where
-  pub all_records : length rs ≡ record_room
-  pub all_pending : length ps ≡ pending_room
-  pub begun : Begun text implication room at height count rs₀ ps₀ from h n g false false rs ps
+pub record Implying (text : List ℕ) (room at : ℕ) (s₀ : Store) (from : ℕ) (g : Grade) (s : Store) : Type 0 where
+  pub begun : Begun text implication room at s₀.height s₀.count s₀.records s₀.pending from s.height s.count g false false s.records s.pending
 
 abbrev pub invariant-read_implication-loop-part : goal.invariant-read_implication-loop-part
-invariant-read_implication-loop-part l = Implying l.text l.at l.room l.initial.records l.initial.pending l.height l.count l.records l.pending l.from l.h l.n l.grade
+invariant-read_implication-loop-part l = Implying l.text l.room l.at l.fn.store l.from l.grade l.store
 
 abbrev pub decreases-read_implication-loop-part : goal.decreases-read_implication-loop-part
 decreases-read_implication-loop-part l = length l.text - l.from
