@@ -18,10 +18,10 @@ fn judged(d: &[u8], converter: &[u8], work: &mut [u8]) -> u64 {
 
 // The positions of a design that isn't refused, 65,537 where there are more than 65,536.
 fn positions(rt: &impl Print, d: &[u8]) -> io::Result<()> {
-    if design_tests::design_refusal(d).is_err() {
-        return Ok(());
+    match design_tests::design_refusal(d) {
+        Ok(()) => lines::line(rt, "  positions", positions::positions_of(d) as u64),
+        Err(_) => Ok(()),
     }
-    lines::line(rt, "  positions", positions::positions_of(d) as u64)
 }
 
 // Searches with room for 1,024 positions.

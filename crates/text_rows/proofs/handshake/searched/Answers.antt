@@ -4,14 +4,14 @@ use lib.ListN.{length-take}
 use Rattle.search.proofs.Answers.{FoundIn, found_in}
 use Rattle.text_rows.proofs.handshake.searched.Given as given
 use Rattle.text_rows.proofs.handshake.searched.Goals as goal
-use Rattle.text_rows.proofs.handshake.searched.Goals.{In-Found}
+use Rattle.text_rows.proofs.handshake.searched.Goals.{In-Ok}
 
-found_here : (g : given.Over) (c : In-Found g) → FoundIn c.args.d.now c.search-outcome.new.table c.in-Found.n
+found_here : (g : given.Over) (c : In-Ok g) → FoundIn c.args.d.now c.search-outcome.new.table c.in-Ok.n
 found_here g c =
-    found_in c.args.d.now _ _ c.search-outcome.result c.search-outcome.new.table c.search-outcome.new.work c.search-outcome.ensures c.in-Found.n c.in-Found.is
+    found_in c.args.d.now _ _ c.search-outcome.result c.search-outcome.new.table c.search-outcome.new.work c.search-outcome.ensures c.in-Ok.n c.in-Ok.is
 
 pub slice_bounds-table-end : goal.slice_bounds-table-end
-slice_bounds-table-end g c = omega (arith, (found_here g (goal.at.slice_bounds-table-end g c).In-Found).fits)
+slice_bounds-table-end g c = omega (arith, (found_here g (goal.at.slice_bounds-table-end g c).In-Ok).fits)
 
 pub slice_bounds-converter-end : goal.slice_bounds-converter-end
-slice_bounds-converter-end g c = simp length-take (omega (arith, (found_here g (goal.at.slice_bounds-converter-end g c).In-Found).fits))
+slice_bounds-converter-end g c = simp length-take (omega (arith, (found_here g (goal.at.slice_bounds-converter-end g c).In-Ok).fits))
