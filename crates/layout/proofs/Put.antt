@@ -3,8 +3,9 @@ use Rattle.std.proofs.Common.{◌≡◌, ℕ, ◌+◌, ◌-◌, ◌<◌, ◌≤�
 use borrow.Rule.Slice.PartMut.{put_mid}
 use lib.Seq.{sets, sets-eq, length-sets, take-append-le, drop-append-le, take-append-add, drop-append-add}
 use Rattle.layout.specs.Tables.{table}
-use Rattle.layout.specs.Bytes.{put}
+use Rattle.layout.specs.Bytes.{byte, part, put}
 use Rattle.layout.proofs.Tables.{length_table}
+use Rattle.layout.proofs.Parts.{length_part, part_more}
 use Rattle.layout.proofs.Pieces.{table_more}
 
 -- a run of stores
@@ -100,6 +101,13 @@ put_more vs bs at v h =
 -- a turn of a loop that stores a byte behind those that it has put
 pub put_next : (vs bs : List ℕ) (at i v : ℕ) → length vs ≡ i → at + i < length bs → set (put bs at vs) (at + i) v ≡ put bs at (vs ++ (v ∷ []))
 put_next vs bs at i v e h = ap (λ n. set (put bs at vs) (at + n) v) (sym e) ∙ put_more vs bs at v (omega arith)
+
+-- a turn of a loop that copies bytes
+pub copy_next : (src dst : List ℕ) (from at i : ℕ) → from + i < length src → at + i < length dst
+    → set (put dst at (part src from i)) (at + i) (byte src (from + i)) ≡ put dst at (part src from (i + 1))
+copy_next src dst from at i hs hd =
+    put_next (part src from i) dst at i (byte src (from + i)) (length_part src from i (omega arith)) hd
+    ∙ ap (λ l. put dst at l) (sym (part_more src from i hs))
 
 -- a turn of a loop that stores the entries of a table, one behind the other
 pub put_table_next : (f : ℕ → ℕ) (bs : List ℕ) (at i : ℕ) → at + i < length bs → set (put bs at (table i f)) (at + i) (f i) ≡ put bs at (table (i + 1) f)
