@@ -6,7 +6,6 @@ ghost use Rattle.std.specs.Prelude.{◌<◌, ◌≤◌, length};
 
 use layout::{blocks, sizes};
 use row_parts::{lines, tables};
-use std::io;
 
 // ---- the calls, and their answers as a number
 
@@ -26,52 +25,52 @@ fn read_front(file: &[u8], lent: &mut [u8]) -> u64 {
 
 // ---- what a call answers with so many of the lent bytes, and whether it left them as they were
 
-fn unchanged(rt: &impl Print, lent: &[u8; 1024]) -> io::Result<()> {
-    lines::yes_or_no(rt, "  lent bytes unchanged", *lent == [170; 1024])
+fn unchanged(rt: &impl Print, lent: &[u8; 1024]) {
+    lines::yes_or_no(rt, "  lent bytes unchanged", *lent == [170; 1024]);
 }
 
-fn write(rt: &impl Print, words: &str, converter: &[u8], room: usize) -> io::Result<()>
+fn write(rt: &impl Print, words: &str, converter: &[u8], room: usize)
     requires { room ≤ 1024 }
 {
     let mut lent = [170u8; 1024];
-    lines::line(rt, words, write_front(converter, &mut lent[..room]))?;
-    unchanged(rt, &lent)
+    lines::line(rt, words, write_front(converter, &mut lent[..room]));
+    unchanged(rt, &lent);
 }
 
-fn read(rt: &impl Print, words: &str, file: &[u8], room: usize) -> io::Result<()>
+fn read(rt: &impl Print, words: &str, file: &[u8], room: usize)
     requires { room ≤ 1024 }
 {
     let mut lent = [170u8; 1024];
-    lines::line(rt, words, read_front(file, &mut lent[..room]))?;
-    unchanged(rt, &lent)
+    lines::line(rt, words, read_front(file, &mut lent[..room]));
+    unchanged(rt, &lent);
 }
 
 // ---- the writer
 
 // F with a byte changed.
-fn changed_record(rt: &impl Print, words: &str, at: usize, v: u8) -> io::Result<()>
+fn changed_record(rt: &impl Print, words: &str, at: usize, v: u8)
     requires { at < 156 }
 {
     let mut c = tables::F;
     c[at] = v;
-    write(rt, words, &c, 512)
+    write(rt, words, &c, 512);
 }
 
-fn writer(rt: &impl Print) -> io::Result<()> {
-    write(rt, "a converter of 0 bytes", &[], 512)?;
-    write(rt, "a converter of 51 bytes", &[0; 51], 512)?;
-    write(rt, "a converter of 53 bytes", &[0; 53], 512)?;
-    changed_record(rt, "a record of state 16", 0, 16)?;
-    changed_record(rt, "a record with 0 transitions", 3, 0)?;
-    changed_record(rt, "a record with 9 transitions", 3, 9)?;
-    changed_record(rt, "a record with 255 transitions", 3, 255)?;
-    changed_record(rt, "the zero inside a place of a record", 7, 1)?;
-    changed_record(rt, "event -64 in a record", 4, 192)?;
-    changed_record(rt, "the events of the sides twice", 10, 1)?;
-    changed_record(rt, "a next record that isn't there", 8, 3)?;
-    changed_record(rt, "an unused place of a record", 51, 1)?;
-    write(rt, "F, 511 bytes lent", &tables::F, 511)?;
-    write(rt, "F, 512 bytes lent, blocks", &tables::F, 512)
+fn writer(rt: &impl Print) {
+    write(rt, "a converter of 0 bytes", &[], 512);
+    write(rt, "a converter of 51 bytes", &[0; 51], 512);
+    write(rt, "a converter of 53 bytes", &[0; 53], 512);
+    changed_record(rt, "a record of state 16", 0, 16);
+    changed_record(rt, "a record with 0 transitions", 3, 0);
+    changed_record(rt, "a record with 9 transitions", 3, 9);
+    changed_record(rt, "a record with 255 transitions", 3, 255);
+    changed_record(rt, "the zero inside a place of a record", 7, 1);
+    changed_record(rt, "event -64 in a record", 4, 192);
+    changed_record(rt, "the events of the sides twice", 10, 1);
+    changed_record(rt, "a next record that isn't there", 8, 3);
+    changed_record(rt, "an unused place of a record", 51, 1);
+    write(rt, "F, 511 bytes lent", &tables::F, 511);
+    write(rt, "F, 512 bytes lent, blocks", &tables::F, 512);
 }
 
 // ---- the block reader
@@ -93,7 +92,7 @@ fn two_blocks() -> [u8; 1024] {
 }
 
 // The file with a byte changed, and the check of its block put right again where that is asked.
-fn changed_file(rt: &impl Print, words: &str, at: usize, v: u8, sealed: bool) -> io::Result<()>
+fn changed_file(rt: &impl Print, words: &str, at: usize, v: u8, sealed: bool)
     requires { at < 1024 }
 {
     let mut file = two_blocks();
@@ -101,42 +100,42 @@ fn changed_file(rt: &impl Print, words: &str, at: usize, v: u8, sealed: bool) ->
     if sealed {
         blocks::seal(&mut file, sizes::BLOCK_BYTES * (at / sizes::BLOCK_BYTES));
     }
-    read(rt, words, &file, 780)
+    read(rt, words, &file, 780);
 }
 
 // The file as it is.
-fn whole_file(rt: &impl Print, words: &str, room: usize) -> io::Result<()>
+fn whole_file(rt: &impl Print, words: &str, room: usize)
     requires { room ≤ 1024 }
 {
-    read(rt, words, &two_blocks(), room)
+    read(rt, words, &two_blocks(), room);
 }
 
-fn reader(rt: &impl Print) -> io::Result<()> {
-    read(rt, "a file of 0 bytes", &[], 780)?;
-    read(rt, "a file of 1 byte", &[0], 780)?;
-    read(rt, "a file of 511 bytes", &[0; 511], 780)?;
-    read(rt, "a file of 513 bytes", &[0; 513], 780)?;
-    changed_file(rt, "a wrong check", 510, 1, false)?;
-    changed_file(rt, "a wrong kind and a wrong check", 512, 9, false)?;
-    changed_file(rt, "a wrong kind", 512, 9, true)?;
-    changed_file(rt, "a wrong first record", 514, 10, true)?;
-    changed_file(rt, "a last block with 0 records", 513, 0, true)?;
-    changed_file(rt, "a last block with 10 records", 513, 10, true)?;
-    changed_file(rt, "a last block with 255 records", 513, 255, true)?;
-    changed_file(rt, "an earlier block with 8 records", 1, 8, true)?;
-    changed_file(rt, "an earlier block with 255 records", 1, 255, true)?;
-    changed_file(rt, "a byte behind the last record", 828, 1, true)?;
-    changed_file(rt, "a record of state 16 in a file", 4, 16, true)?;
-    changed_file(rt, "a next record past the file", 12, 15, true)?;
-    changed_file(rt, "the zero inside a place in a file", 11, 1, true)?;
-    whole_file(rt, "15 records, 779 bytes lent", 779)?;
-    whole_file(rt, "15 records, 780 bytes lent, records", 780)
+fn reader(rt: &impl Print) {
+    read(rt, "a file of 0 bytes", &[], 780);
+    read(rt, "a file of 1 byte", &[0], 780);
+    read(rt, "a file of 511 bytes", &[0; 511], 780);
+    read(rt, "a file of 513 bytes", &[0; 513], 780);
+    changed_file(rt, "a wrong check", 510, 1, false);
+    changed_file(rt, "a wrong kind and a wrong check", 512, 9, false);
+    changed_file(rt, "a wrong kind", 512, 9, true);
+    changed_file(rt, "a wrong first record", 514, 10, true);
+    changed_file(rt, "a last block with 0 records", 513, 0, true);
+    changed_file(rt, "a last block with 10 records", 513, 10, true);
+    changed_file(rt, "a last block with 255 records", 513, 255, true);
+    changed_file(rt, "an earlier block with 8 records", 1, 8, true);
+    changed_file(rt, "an earlier block with 255 records", 1, 255, true);
+    changed_file(rt, "a byte behind the last record", 828, 1, true);
+    changed_file(rt, "a record of state 16 in a file", 4, 16, true);
+    changed_file(rt, "a next record past the file", 12, 15, true);
+    changed_file(rt, "the zero inside a place in a file", 11, 1, true);
+    whole_file(rt, "15 records, 779 bytes lent", 779);
+    whole_file(rt, "15 records, 780 bytes lent, records", 780);
 }
 
 // ---- what is written is read back the same, and no byte behind it is changed
 
 // A converter, and as many bytes as its file has.
-fn back(rt: &impl Print, words: &str, converter: &[u8], file: &mut [u8]) -> io::Result<()>
+fn back(rt: &impl Print, words: &str, converter: &[u8], file: &mut [u8])
     requires { length converter.now ≤ 1024 }
 {
     let mut lent = [170u8; 1024];
@@ -144,17 +143,17 @@ fn back(rt: &impl Print, words: &str, converter: &[u8], file: &mut [u8]) -> io::
     let _blocks = files::writer::write(converter, file);
     let _records = files::reader::read(file, &mut lent);
     expected[..converter.len()].copy_from_slice(converter);
-    lines::yes_or_no(rt, words, lent == expected)
+    lines::yes_or_no(rt, words, lent == expected);
 }
 
-fn main(rt: HostRuntime) -> io::Result<()> {
-    writer(&rt)?;
-    reader(&rt)?;
-    back(&rt, "F written and read back", &tables::F, &mut [0; 512])?;
+fn main(rt: HostRuntime) {
+    writer(&rt);
+    reader(&rt);
+    back(&rt, "F written and read back", &tables::F, &mut [0; 512]);
     back(
         &rt,
         "15 records written and read back",
         &fifteen(),
         &mut [0; 1024],
-    )
+    );
 }

@@ -5,7 +5,6 @@ ghost use Rattle.layout.specs.Sizes.{most_rules};
 use judge::quick;
 use refusals::refusal::Refusal;
 use row_parts::{designs, lines, tables};
-use std::io;
 
 // The converter that enables the first input of the fork alone.
 const FORK_FIRST: [u8; 104] = *b"\
@@ -25,23 +24,16 @@ fn numbers(a: Result<quick::Outcome, Refusal>) -> (u64, u64) {
 }
 
 // The answer with so many of the lent bytes, and whether the work is left as it should be: 7 everywhere at first, then 0 in so many bytes.
-fn blamed(
-    rt: &impl Print,
-    words: &str,
-    d: &[u8],
-    converter: &[u8],
-    room: usize,
-    cleared: usize,
-) -> io::Result<()>
+fn blamed(rt: &impl Print, words: &str, d: &[u8], converter: &[u8], room: usize, cleared: usize)
     requires { (room ≤ 70) × (cleared ≤ 70) }
 {
     let mut lent = [7u8; 70];
     let mut expected = [7u8; 70];
     let (said, rule) = numbers(quick::verdict(d, converter, &mut lent[..room]));
-    lines::line(rt, words, said)?;
-    lines::line(rt, "  rule", rule)?;
+    lines::line(rt, words, said);
+    lines::line(rt, "  rule", rule);
     expected[..cleared].fill(0);
-    lines::yes_or_no(rt, "  work as promised", lent == expected)
+    lines::yes_or_no(rt, "  work as promised", lent == expected);
 }
 
 // A converter of the handshake pair against these of the paper's rules.
@@ -53,22 +45,16 @@ fn handshake(
     converter: &[u8],
     room: usize,
     cleared: usize,
-) -> io::Result<()>
+)
     requires { (length rules.now ≤ most_rules) × (room ≤ 70) × (cleared ≤ 70) }
 {
     let mut d = [0u8; 2048];
     designs::design(&mut d, &tables::H_KERNEL, &tables::H_HOST, formulas, rules);
-    blamed(rt, words, &d, converter, room, cleared)
+    blamed(rt, words, &d, converter, room, cleared);
 }
 
 // A converter of the fork against these rules over AX 16 and AX 17.
-fn fork(
-    rt: &impl Print,
-    words: &str,
-    rules: &[u8],
-    converter: &[u8],
-    cleared: usize,
-) -> io::Result<()>
+fn fork(rt: &impl Print, words: &str, rules: &[u8], converter: &[u8], cleared: usize)
     requires { (length rules.now ≤ most_rules) × (cleared ≤ 70) }
 {
     let mut d = [0u8; 2048];
@@ -79,10 +65,10 @@ fn fork(
         &tables::EITHER,
         rules,
     );
-    blamed(rt, words, &d, converter, 70, cleared)
+    blamed(rt, words, &d, converter, 70, cleared);
 }
 
-fn of_handshake(rt: &impl Print) -> io::Result<()> {
+fn of_handshake(rt: &impl Print) {
     handshake(
         rt,
         "quick: F, the four rules as printed",
@@ -91,7 +77,7 @@ fn of_handshake(rt: &impl Print) -> io::Result<()> {
         &tables::F,
         70,
         48,
-    )?;
+    );
     handshake(
         rt,
         "quick: F, the four rules as printed, the last first",
@@ -100,7 +86,7 @@ fn of_handshake(rt: &impl Print) -> io::Result<()> {
         &tables::F,
         48,
         48,
-    )?;
+    );
     handshake(
         rt,
         "quick: F, sixteen rules, the fourth at places 5, 9 and 15",
@@ -109,7 +95,7 @@ fn of_handshake(rt: &impl Print) -> io::Result<()> {
         &tables::F,
         70,
         48,
-    )?;
+    );
     handshake(
         rt,
         "quick: F, the fourth rule mended",
@@ -118,7 +104,7 @@ fn of_handshake(rt: &impl Print) -> io::Result<()> {
         &tables::F,
         70,
         48,
-    )?;
+    );
     handshake(
         rt,
         "quick: F, sixteen rules, the fourth mended",
@@ -127,7 +113,7 @@ fn of_handshake(rt: &impl Print) -> io::Result<()> {
         &tables::F,
         70,
         48,
-    )?;
+    );
     handshake(
         rt,
         "quick: F without rules",
@@ -136,10 +122,10 @@ fn of_handshake(rt: &impl Print) -> io::Result<()> {
         &tables::F,
         70,
         48,
-    )
+    );
 }
 
-fn refused(rt: &impl Print) -> io::Result<()> {
+fn refused(rt: &impl Print) {
     handshake(
         rt,
         "quick: F without (0,0) in record 0",
@@ -148,7 +134,7 @@ fn refused(rt: &impl Print) -> io::Result<()> {
         &tables::F_DEAF,
         70,
         48,
-    )?;
+    );
     handshake(
         rt,
         "quick: F, 47 bytes of work",
@@ -157,7 +143,7 @@ fn refused(rt: &impl Print) -> io::Result<()> {
         &tables::F,
         47,
         0,
-    )?;
+    );
     handshake(
         rt,
         "quick: F without its last record, 47 bytes of work",
@@ -166,7 +152,7 @@ fn refused(rt: &impl Print) -> io::Result<()> {
         &tables::F[..104],
         47,
         0,
-    )?;
+    );
     handshake(
         rt,
         "quick: F without its last byte",
@@ -175,7 +161,7 @@ fn refused(rt: &impl Print) -> io::Result<()> {
         &tables::F[..155],
         70,
         0,
-    )?;
+    );
     handshake(
         rt,
         "quick: a rule that names no formula, F without its last byte",
@@ -184,24 +170,24 @@ fn refused(rt: &impl Print) -> io::Result<()> {
         &tables::F[..155],
         70,
         0,
-    )
+    );
 }
 
-pub fn rows(rt: &impl Print) -> io::Result<()> {
-    of_handshake(rt)?;
+pub fn rows(rt: &impl Print) {
+    of_handshake(rt);
     fork(
         rt,
         "quick: both inputs of h0, (AX 16) or (AX 17)",
         &[4],
         &tables::FORK_OPEN,
         48,
-    )?;
+    );
     fork(
         rt,
         "quick: the first input of h0, AX 16 and AX 17",
         &[2, 3],
         &FORK_FIRST,
         32,
-    )?;
-    refused(rt)
+    );
+    refused(rt);
 }

@@ -4,8 +4,6 @@
 
 mod blaming;
 
-use std::io;
-
-fn main(rt: HostRuntime) -> io::Result<()> {
-    blaming::rows(&rt)
+fn main(rt: HostRuntime) {
+    blaming::rows(&rt);
 }

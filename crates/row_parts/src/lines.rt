@@ -3,7 +3,8 @@ ghost use Rattle.std.specs.Prelude.{◌≡◌};
 ghost use Rattle.refusals.specs.Answered.{refusal_of};
 
 use refusals::refusal::Refusal;
-use std::io;
+use std::convert::AsSlice;
+use std::io::{self, Write};
 
 // What a call answered, by number: 0, or the refusal's.
 pub fn number<T: Copy>(answer: Result<T, Refusal>) -> u64
@@ -15,12 +16,19 @@ pub fn number<T: Copy>(answer: Result<T, Refusal>) -> u64
     }
 }
 
+// The words of a line, which are text or bytes. A write that fails is passed over here and below, and the next is tried.
+fn begin(rt: &impl Print, words: impl AsSlice<u8> + Drop) {
+    let _ = io::writer(rt).write_all(words.as_slice());
+}
+
 // A line: the words, and a number.
-pub fn line(rt: &impl Print, words: &str, n: u64) -> io::Result<()> {
-    println!(rt; "{words}: {n}")
+pub fn line(rt: &impl Print, words: impl AsSlice<u8> + Drop, n: u64) {
+    begin(rt, words);
+    let _ = println!(rt; ": {n}");
 }
 
 // A line: the words, and whether it is so.
-pub fn yes_or_no(rt: &impl Print, words: &str, is: bool) -> io::Result<()> {
-    println!(rt; "{words}: {}", if is { "yes" } else { "no" })
+pub fn yes_or_no(rt: &impl Print, words: impl AsSlice<u8> + Drop, is: bool) {
+    begin(rt, words);
+    let _ = println!(rt; ": {}", if is { "yes" } else { "no" });
 }

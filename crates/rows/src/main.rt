@@ -6,10 +6,8 @@ mod judging;
 mod ticks;
 mod waiting;
 
-use std::io;
-
-fn main(rt: HostRuntime) -> io::Result<()> {
-    judging::rows(&rt)?;
-    waiting::rows(&rt)?;
-    ticks::rows(&rt)
+fn main(rt: HostRuntime) {
+    judging::rows(&rt);
+    waiting::rows(&rt);
+    ticks::rows(&rt);
 }

@@ -3,7 +3,6 @@ ghost use Rattle.std.specs.Prelude.{◌*◌, ◌≤◌, length};
 ghost use Rattle.layout.specs.Sizes.{state_bytes, formula_bytes, most_states, most_formulas, most_rules};
 
 use row_parts::{designs, lines, tables};
-use std::io;
 
 // ---- H with s0 at 0 to 0, at 0 to 1 and at 0 to 2 waits: s0, s1, and the counts of s0 from 1 on; and converters that leave t0 alone, a record for each of these
 
@@ -61,14 +60,7 @@ fn answer(d: &[u8], converter: &[u8], work: &mut [u8], list: &mut [u32]) -> u64 
 }
 
 // The answer, with so many of the lent bytes and of the lent numbers, and the list after.
-fn waited(
-    rt: &impl Print,
-    words: &str,
-    d: &[u8],
-    converter: &[u8],
-    room: usize,
-    listed: usize,
-) -> io::Result<()>
+fn waited(rt: &impl Print, words: &str, d: &[u8], converter: &[u8], room: usize, listed: usize)
     requires { (room ≤ 1600) × (listed ≤ 5) }
 {
     let mut work = [7u8; 1600];
@@ -77,11 +69,10 @@ fn waited(
         rt,
         words,
         answer(d, converter, &mut work[..room], &mut list[..listed]),
-    )?;
+    );
     for n in list {
-        lines::line(rt, "  listed", u64::from(n))?;
+        lines::line(rt, "  listed", u64::from(n));
     }
-    Ok(())
 }
 
 // ---- the designs
@@ -96,12 +87,12 @@ fn handshake(
     converter: &[u8],
     room: usize,
     listed: usize,
-) -> io::Result<()>
+)
     requires { (length kernel.now ≤ state_bytes * most_states) × (length formulas.now ≤ formula_bytes * most_formulas) × (length rules.now ≤ most_rules) × (room ≤ 1600) × (listed ≤ 5) }
 {
     let mut d = [0u8; 2048];
     designs::design(&mut d, kernel, &tables::H_HOST, formulas, rules);
-    waited(rt, words, &d, converter, room, listed)
+    waited(rt, words, &d, converter, room, listed);
 }
 
 // F under the paper's four rules.
@@ -112,7 +103,7 @@ fn four(
     converter: &[u8],
     room: usize,
     listed: usize,
-) -> io::Result<()>
+)
     requires { (room ≤ 1600) × (listed ≤ 5) }
 {
     handshake(
@@ -124,18 +115,18 @@ fn four(
         converter,
         room,
         listed,
-    )
+    );
 }
 
 // A(true U 1), where s0 waits so often at the most.
-fn sent(rt: &impl Print, words: &str, kernel: &[u8], converter: &[u8]) -> io::Result<()>
+fn sent(rt: &impl Print, words: &str, kernel: &[u8], converter: &[u8])
     requires { length kernel.now ≤ state_bytes * most_states }
 {
-    handshake(rt, words, kernel, &tables::UNTIL, &[2], converter, 64, 1)
+    handshake(rt, words, kernel, &tables::UNTIL, &[2], converter, 64, 1);
 }
 
 // Two untils and the always over both, of the states in turn.
-fn in_turn(rt: &impl Print) -> io::Result<()> {
+fn in_turn(rt: &impl Print) {
     let mut d = [0u8; 2048];
     designs::design(
         &mut d,
@@ -151,11 +142,11 @@ fn in_turn(rt: &impl Print) -> io::Result<()> {
         &IN_TURN,
         32,
         3,
-    )
+    );
 }
 
 // Of a hundred records, in which both tick, each leads to the next. The last shows the picture: in the one before it the host reads 1, and it ticks back to the first.
-fn chain(rt: &impl Print) -> io::Result<()> {
+fn chain(rt: &impl Print) {
     let mut c = [0u8; 5200];
     for i in 0..100u8 {
         let at = 52 * usize::from(i);
@@ -167,10 +158,10 @@ fn chain(rt: &impl Print) -> io::Result<()> {
     c[5156] = 0;
     let mut d = [0u8; 2048];
     designs::design(&mut d, &tables::TICKING, &VIEWER, &PICTURE, &[2]);
-    waited(rt, "a chain of 100 records, A(true U 16)", &d, &c, 1600, 1)
+    waited(rt, "a chain of 100 records, A(true U 16)", &d, &c, 1600, 1);
 }
 
-pub fn rows(rt: &impl Print) -> io::Result<()> {
+pub fn rows(rt: &impl Print) {
     handshake(
         rt,
         "F, A(true U 0)",
@@ -180,27 +171,27 @@ pub fn rows(rt: &impl Print) -> io::Result<()> {
         &tables::F,
         48,
         2,
-    )?;
+    );
     sent(
         rt,
         "H with s0 at 0 to 0, A(true U 1)",
         &AT_ONCE,
         &SENT_AT_ONCE,
-    )?;
+    );
     sent(
         rt,
         "H with s0 at 0 to 1, A(true U 1)",
         &BY_ONE,
         &SENT_BY_ONE,
-    )?;
+    );
     sent(
         rt,
         "H with s0 at 0 to 2, A(true U 1)",
         &BY_TWO,
         &SENT_BY_TWO,
-    )?;
-    in_turn(rt)?;
-    chain(rt)?;
+    );
+    in_turn(rt);
+    chain(rt);
     four(
         rt,
         "F, the fourth rule mended, five numbers",
@@ -208,7 +199,7 @@ pub fn rows(rt: &impl Print) -> io::Result<()> {
         &tables::F,
         48,
         5,
-    )?;
+    );
     four(
         rt,
         "F, the fourth rule mended, three numbers",
@@ -216,7 +207,7 @@ pub fn rows(rt: &impl Print) -> io::Result<()> {
         &tables::F,
         48,
         3,
-    )?;
+    );
     four(
         rt,
         "F, three numbers and 47 bytes of work",
@@ -224,7 +215,7 @@ pub fn rows(rt: &impl Print) -> io::Result<()> {
         &tables::F,
         47,
         3,
-    )?;
+    );
     four(
         rt,
         "F without its last record, three numbers",
@@ -232,7 +223,7 @@ pub fn rows(rt: &impl Print) -> io::Result<()> {
         &tables::F[..104],
         48,
         3,
-    )?;
+    );
     four(
         rt,
         "F without (0,0) in record 0, four numbers",
@@ -240,7 +231,7 @@ pub fn rows(rt: &impl Print) -> io::Result<()> {
         &tables::F_DEAF,
         48,
         4,
-    )?;
+    );
     four(
         rt,
         "F, the four rules as printed, four numbers",
@@ -248,7 +239,7 @@ pub fn rows(rt: &impl Print) -> io::Result<()> {
         &tables::F,
         48,
         4,
-    )?;
+    );
     handshake(
         rt,
         "F without rules and without numbers",
@@ -258,5 +249,5 @@ pub fn rows(rt: &impl Print) -> io::Result<()> {
         &tables::F,
         48,
         0,
-    )
+    );
 }

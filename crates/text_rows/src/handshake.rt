@@ -5,7 +5,6 @@ ghost use Rattle.layout.specs.Sizes.{formula_bytes, most_formulas, most_rules};
 use crate::texts;
 use layout::sizes;
 use row_parts::{designs, lines, tables};
-use std::io;
 
 // ---- the judge and the search, and their answers as a number
 
@@ -15,35 +14,34 @@ fn judged(d: &[u8], converter: &[u8], work: &mut [u8]) -> u64 {
 }
 
 // Searches with room for 1,024 positions. Of a converter found, what the judge answers.
-fn searched(rt: &impl Print, d: &[u8]) -> io::Result<()> {
+fn searched(rt: &impl Print, d: &[u8]) {
     let mut table = [7u8; 53248];
     let mut work = [7u8; 16384];
     let outcome = search::search(d, &mut table, &mut work);
-    lines::line(rt, "  search", lines::number(outcome))?;
+    lines::line(rt, "  search", lines::number(outcome));
     if let Ok(n) = outcome {
         let converter = &table[..sizes::RECORD_BYTES * (n as usize)];
         lines::line(
             rt,
             "  the converter found judged",
             judged(d, converter, &mut work),
-        )?;
+        );
     }
-    Ok(())
 }
 
 // ---- the design
 
 // The rules of a text, and H with these formulas and rules.
-fn pair(rt: &impl Print, words: &str, text: &str, formulas: &[u8], rules: &[u8]) -> io::Result<()>
+fn pair(rt: &impl Print, words: &str, text: &str, formulas: &[u8], rules: &[u8])
     requires { (length formulas.now ≤ formula_bytes * most_formulas) × (length rules.now ≤ most_rules) }
 {
-    print!(rt; "{words}\n{text}")?;
+    let _ = print!(rt; "{words}\n{text}");
     let mut lent = [170u8; 1030];
-    if !texts::answered(rt, text.as_bytes(), &mut lent)? {
-        return Ok(());
+    if !texts::answered(rt, text.as_bytes(), &mut lent) {
+        return;
     }
-    texts::formulas(rt, &lent)?;
-    texts::behind_sides(rt, &lent)?;
+    texts::formulas(rt, &lent);
+    texts::behind_sides(rt, &lent);
     let d = texts::with_sides(&lent);
     let mut expected = [0u8; 2048];
     designs::design(
@@ -53,13 +51,13 @@ fn pair(rt: &impl Print, words: &str, text: &str, formulas: &[u8], rules: &[u8])
         formulas,
         rules,
     );
-    lines::yes_or_no(rt, "  the design of the tables", d == expected)?;
-    lines::line(rt, "  F judged", judged(&d, &tables::F, &mut [7; 48]))?;
-    searched(rt, &d)
+    lines::yes_or_no(rt, "  the design of the tables", d == expected);
+    lines::line(rt, "  F judged", judged(&d, &tables::F, &mut [7; 48]));
+    searched(rt, &d);
 }
 
-pub fn rows(rt: &impl Print) -> io::Result<()> {
-    pair(rt, "H and empty text", "", &[], &[])?;
+pub fn rows(rt: &impl Print) {
+    pair(rt, "H and empty text", "", &[], &[]);
     pair(
         rt,
         "H as printed",
@@ -69,7 +67,7 @@ pub fn rows(rt: &impl Print) -> io::Result<()> {
         AG (p0 & p19 -> AX (!p1 | !p18))\n",
         &tables::PRINTED,
         &tables::FOUR,
-    )?;
+    );
     pair(
         rt,
         "H with the fourth rule mended",
@@ -79,6 +77,6 @@ pub fn rows(rt: &impl Print) -> io::Result<()> {
         AG (p0 & p19 -> AX (!p1 | p18))\n",
         &tables::MENDED,
         &tables::FOUR,
-    )?;
-    pair(rt, "H and an until", "AF p1\n", &tables::UNTIL, &[2])
+    );
+    pair(rt, "H and an until", "AF p1\n", &tables::UNTIL, &[2]);
 }

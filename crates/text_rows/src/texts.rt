@@ -1,18 +1,17 @@
 // The call on a text, and what it leaves. What is lent is 170 everywhere at first, so that a byte that was written shows; six bytes of it stand behind the blocks.
 use refusals::design_tests;
 use row_parts::{designs, lines, tables};
-use std::io;
 
 // The answer: whether rules were made.
-pub fn answered(rt: &impl Print, text: &[u8], lent: &mut [u8]) -> io::Result<bool> {
+pub fn answered(rt: &impl Print, text: &[u8], lent: &mut [u8]) -> bool {
     match rules::rules(text, lent) {
         Ok(n) => {
-            lines::line(rt, "  rules", n as u64)?;
-            Ok(true)
+            lines::line(rt, "  rules", n as u64);
+            true
         }
         Err(refusal) => {
-            lines::line(rt, "  refused", u64::from(refusal.number()))?;
-            Ok(false)
+            lines::line(rt, "  refused", u64::from(refusal.number()));
+            false
         }
     }
 }
@@ -28,8 +27,8 @@ pub fn rule_count(lent: &[u8; 1030]) -> u8 {
     lent[513]
 }
 
-pub fn formulas(rt: &impl Print, lent: &[u8; 1030]) -> io::Result<()> {
-    lines::line(rt, "  formulas", u64::from(formula_count(lent)))
+pub fn formulas(rt: &impl Print, lent: &[u8; 1030]) {
+    lines::line(rt, "  formulas", u64::from(formula_count(lent)));
 }
 
 // The design of the sides of H and the blocks.
@@ -40,21 +39,21 @@ pub fn with_sides(lent: &[u8; 1030]) -> [u8; 2048] {
     d
 }
 
-pub fn behind_sides(rt: &impl Print, lent: &[u8; 1030]) -> io::Result<()> {
+pub fn behind_sides(rt: &impl Print, lent: &[u8; 1030]) {
     let refusal = design_tests::design_refusal(&with_sides(lent));
-    lines::line(rt, "  behind H's sides", lines::number(refusal))
+    lines::line(rt, "  behind H's sides", lines::number(refusal));
 }
 
 // ---- bytes that aren't written
 
-pub fn unchanged(rt: &impl Print, lent: &[u8; 1030]) -> io::Result<()> {
-    lines::yes_or_no(rt, "  lent bytes unchanged", *lent == [170; 1030])
+pub fn unchanged(rt: &impl Print, lent: &[u8; 1030]) {
+    lines::yes_or_no(rt, "  lent bytes unchanged", *lent == [170; 1030]);
 }
 
-pub fn unchanged_behind(rt: &impl Print, lent: &[u8; 1030]) -> io::Result<()> {
+pub fn unchanged_behind(rt: &impl Print, lent: &[u8; 1030]) {
     lines::yes_or_no(
         rt,
         "  bytes behind the blocks unchanged",
         lent[1024..] == [170; 6],
-    )
+    );
 }

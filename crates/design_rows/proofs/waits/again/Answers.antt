@@ -4,4 +4,4 @@ use lib.ListN.{length-take}
 use Rattle.design_rows.proofs.waits.again.Goals as goal
 
 pub slice_bounds-refused-end : goal.slice_bounds-refused-end
-slice_bounds-refused-end g c = omega (arith, length-take 2048 c.in_ok-made.made, c.in_ok-made.ensures)
+slice_bounds-refused-end g c = omega (arith, length-take 2048 c.pair-made.result, c.pair-made.ensures)
