@@ -1,7 +1,7 @@
 -- Parts of a list of bytes (`part`), by one byte more, by index and within another, and what is added up over one.
-use Rattle.std.proofs.Common.{◌≡◌, ℕ, ◌+◌, ◌-◌, ◌%◌, ◌<◌, ◌≤◌, true, eqb, List, [], ◌∷◌, ◌++◌, length, take, drop, sym, ap, ◌∙◌, add_assoc, add-one, arith, length-drop, length-take-le, get_or-drop, get_or-take, take-suc, ext_get_or, eq-eqb, eqb-true}
+use Rattle.std.proofs.Common.{◌≡◌, ℕ, ◌+◌, ◌-◌, ◌%◌, ◌<◌, ◌≤◌, true, false, eqb, List, [], ◌∷◌, ◌++◌, length, take, drop, sym, ap, ◌∙◌, add_assoc, add-one, arith, length-drop, length-take-le, get_or-drop, get_or-take, take-suc, ext_get_or, eq-eqb, ne_eqb, eqb-true}
 use Rattle.layout.specs.Bytes.{byte, part, all_zero, sum, check}
-use Rattle.layout.proofs.Tables.{all_true, all_at}
+use Rattle.layout.proofs.Tables.{all_true, all_false, all_at}
 
 module _ (bs : List ℕ) (at : ℕ) where
   pub length_part : (n : ℕ) → at + n ≤ length bs → length (part bs at n) ≡ n
@@ -61,3 +61,9 @@ module _ (bs : List ℕ) (at n : ℕ) (fits : at + n ≤ length bs) where
   unfolding all_zero
   zero_at e k h =
       sym (byte_part bs at n k h) ∙ eqb-true (byte (part bs at n) k) 0 (all_at (λ b. eqb b 0) 0 (part bs at n) e k (omega (arith, length_part bs at n fits)))
+
+  pub not_zeros : (k : ℕ) → k < n → (byte bs (at + k) ≡ 0 → ⊥) → all_zero (part bs at n) ≡ false
+  unfolding all_zero
+  not_zeros k h ne =
+      all_false (λ b. eqb b 0) 0 (part bs at n) k (omega (arith, length_part bs at n fits))
+      (ne_eqb (byte (part bs at n) k) 0 (λ e. ne (sym (byte_part bs at n k h) ∙ e)))

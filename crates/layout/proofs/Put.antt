@@ -1,6 +1,7 @@
 -- Bytes put in the place of others (`put`): by single stores, one piece behind another, one over another, and read again.
-use Rattle.std.proofs.Common.{◌≡◌, ℕ, ◌+◌, ◌-◌, ◌<◌, ◌≤◌, List, [], ◌∷◌, ◌++◌, length, take, drop, set, sym, refl, ap, ◌∙◌, subst, ap₂, append_assoc, add_assoc, add-one, arith, length-append, length-take-le, drop-drop, take_at, drop_at}
+use Rattle.std.proofs.Common.{◌≡◌, ℕ, ◌+◌, ◌-◌, ◌<◌, ◌≤◌, List, [], ◌∷◌, ◌++◌, length, take, drop, set, replicate, sym, refl, ap, ◌∙◌, subst, ap₂, append_assoc, add_assoc, add-one, arith, length-append, length-take-le, drop-drop, take_at, drop_at}
 use borrow.Rule.Slice.PartMut.{put_mid}
+use lib.ListN.{length-replicate, replicate-append-replicate}
 use lib.Seq.{sets, sets-eq, length-sets, take-append-le, drop-append-le, take-append-add, drop-append-add}
 use Rattle.layout.specs.Tables.{table}
 use Rattle.layout.specs.Bytes.{byte, part, put}
@@ -101,6 +102,11 @@ put_more vs bs at v h =
 -- a turn of a loop that stores a byte behind those that it has put
 pub put_next : (vs bs : List ℕ) (at i v : ℕ) → length vs ≡ i → at + i < length bs → set (put bs at vs) (at + i) v ≡ put bs at (vs ++ (v ∷ []))
 put_next vs bs at i v e h = ap (λ n. set (put bs at vs) (at + n) v) (sym e) ∙ put_more vs bs at v (omega arith)
+
+-- a turn of a loop that fills with a byte
+pub fill_next : (bs : List ℕ) (at i v : ℕ) → at + i < length bs → set (put bs at (replicate i v)) (at + i) v ≡ put bs at (replicate (i + 1) v)
+fill_next bs at i v h =
+    put_next (replicate i v) bs at i v (length-replicate i v) h ∙ ap (λ l. put bs at l) (replicate-append-replicate i 1 v)
 
 -- a turn of a loop that copies bytes
 pub copy_next : (src dst : List ℕ) (from at i : ℕ) → from + i < length src → at + i < length dst

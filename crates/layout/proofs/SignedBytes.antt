@@ -1,10 +1,13 @@
--- Signed bytes: an event has the bits of its byte, and is read back from it.
-use Rattle.std.proofs.Common.{◌≡◌, ℕ, ◌-◌, ◌<◌, Bool, cond, ltb, ℤ, pos, negsuc, ◌-ℤ◌, neg_ℤ, refl, ap, ◌∙◌, arith, w8, to_z, of_z, le-ltb, lt-ltb}
+-- Signed bytes: an event has the bits of its byte, and is read back from it; and what the machine's comparisons and differences of `i8` say of the numbers.
+use Rattle.std.proofs.Common.{◌≡◌, ℕ, zero, suc, ◌-◌, ◌<◌, ◌≤◌, Bool, true, false, cond, leb, ltb, ℤ, pos, negsuc, ◌-ℤ◌, neg_ℤ, nat_abs, sym, refl, ap, ◌∙◌, true≢false, arith, w8, SFits, to_z, of_z, ltb-false, ltb-true, le-ltb, lt-ltb, le-leb}
+use mathlib.Core.Bool.{false≢true}
 use native.Mathlib.Decide.{dec_lt}
+use borrow.Author.Tests.{lt-leb}
+use lib.Dec.{leb-zero}
 use lib.IntN.{+ℤ_idl}
-use lib.Signed.{mag}
+use lib.Signed.{mag, lt_z, le_z}
 use mir.ValLaws.{to_z-of_z}
-use Rattle.model.specs.Events.{Event, InRange}
+use Rattle.model.specs.Events.{Event, InRange, sent}
 use Rattle.layout.specs.Bytes.{event_of, event_byte}
 
 -- the machine reads a number back from its bits
@@ -14,6 +17,34 @@ read_back e h = to_z-of_z w8 e (record { sfits = h })
 -- 0 - e is the negation
 pub from_zero : (e : ℤ) → pos 0 -ℤ e ≡ neg_ℤ e
 from_zero e = +ℤ_idl (neg_ℤ e)
+
+-- an event in range has a negation that fits
+pub negation_fits : (e : ℤ) → nat_abs e ≤ 63 → SFits w8 (neg_ℤ e)
+negation_fits (pos zero) h = record { sfits = omega arith }
+negation_fits (pos (suc n)) h = record { sfits = omega arith }
+negation_fits (negsuc n) h = record { sfits = omega arith }
+
+-- -1 - m, and -1 - (-(n + 1))
+pub below_zero : (m : ℕ) → negsuc 0 -ℤ pos m ≡ negsuc m
+below_zero zero = refl
+below_zero (suc m) = ap negsuc (omega arith)
+
+pub above_zero : (n : ℕ) → negsuc 0 -ℤ negsuc n ≡ pos n
+above_zero n = rw (le-ltb (suc n) 1 (omega arith)) (ap pos (omega arith))
+
+-- the test `0 <= e`
+pub nonnegative : (e : ℤ) → le_z (pos 0) e ≡ true → (n : ℕ) × (e ≡ pos n)
+nonnegative (pos n) t = (n, refl)
+nonnegative (negsuc n) t = absurd (false≢true t)
+
+pub negative : (e : ℤ) → le_z (pos 0) e ≡ false → (n : ℕ) × (e ≡ negsuc n)
+negative (pos n) t = absurd (true≢false (sym (leb-zero n) ∙ t))
+negative (negsuc n) t = (n, refl)
+
+-- the test `e < 0`
+pub sent_below : (e : ℤ) → lt_z e (pos 0) ≡ sent e
+sent_below (pos n) = le-ltb n 0 (omega arith)
+sent_below (negsuc n) = refl
 
 -- ---- an event and its byte
 -- they have the same bits
@@ -40,3 +71,13 @@ byte_back b h = by (dec_lt b 128)
     by : Dec (b < 128) → event_byte (event_of b) ≡ b
     by (yes l) = ap (λ (t : Bool). event_byte (cond t (pos b) (negsuc (255 - b)))) (lt-ltb b 128 l)
     by (no l) = ap (λ (t : Bool). event_byte (cond t (pos b) (negsuc (255 - b)))) (le-ltb b 128 (omega arith)) ∙ omega arith
+
+-- ---- the range
+-- below -63, and up to 63
+pub too_low : (e : ℤ) → lt_z e (negsuc 62) ≡ true → leb (nat_abs e) 63 ≡ false
+too_low (pos n) t = absurd (false≢true t)
+too_low (negsuc n) t = lt-leb (suc n) 63 (omega (arith, ltb-true 62 n t))
+
+pub low_enough : (e : ℤ) → lt_z e (negsuc 62) ≡ false → le_z e (pos 63) ≡ leb (nat_abs e) 63
+low_enough (pos n) t = refl
+low_enough (negsuc n) t = sym (le-leb (suc n) 63 (omega (arith, ltb-false 62 n t)))
