@@ -112,10 +112,10 @@ pair_taken {count = count} {rs = rs} {p = p} {rs₁} {q = q} {rs₂ = rs₂} {rs
     }
 
 -- ---- chains
--- the place of the reader of a chain's parts among those of the cycle
-abbrev pub inner_place : Connective → ℕ
-inner_place connective.And = 4
-inner_place connective.Or = 6
+-- the place of their reader among those of the cycle
+abbrev pub place : Connective → ℕ
+place connective.And = 3
+place connective.Or = 5
 
 -- A chain was read, to a part's end. A reading of the whole goes on from here.
 pub record Chained (c : Connective) (text : List ℕ) (room from height count : ℕ) (rs : List ℕ) (ps : List Entry) (p : Part) (rs' : List ℕ) (ps' : List Entry) : Type 0 where
@@ -206,6 +206,11 @@ module _ (c : Connective) {text : List ℕ} {room from height count : ℕ} {rs :
   chain_broken n f s x =
       let y = next_part c h.taken.tree w.token (h.only f s x) in
       n y.0 y.1 (subst (λ (r : List ℕ). Parses (part (inner c)) room r y.0 y.1) w.left y.2)
+
+-- no part stands first, so no chain
+pub chain_none : (c : Connective) {room : ℕ} {s : List ℕ} → Nothing (inner c) room s → Nothing (whole c) room s
+chain_none connective.And n f s (a_conjunction {s₁ = s₁} {f = g} y m) = n g s₁ y
+chain_none connective.Or n f s (a_disjunction {s₁ = s₁} {f = g} y m) = n g s₁ y
 
 -- the chain ends here
 pub chain_ended : (c : Connective) {text : List ℕ} {room from height count : ℕ} {rs : List ℕ} {ps : List Entry} {p : Part} {rs' : List ℕ} {ps' : List Entry} → Chained c text room from height count rs ps p rs' ps'

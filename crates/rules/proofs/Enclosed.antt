@@ -5,12 +5,14 @@ use Prim.Native.Nat.{ℕ, suc, ◌-◌, ◌*◌, ◌≤◌}
 use native.Mathlib.Numerals.{unary_clauses}
 use native.Mathlib.Omega.{arith}
 use lib.ListN.{length, drop}
+use Rattle.tokens.specs.declared.Found.{Found}
 use Rattle.tokens.specs.declared.Quantifier.{Quantifier}
 use Rattle.tokens.specs.declared.Token.{Token}
 use Rattle.tokens.specs.declared.Token.TheVariants.{Path, Until, Open, Close, OpenSquare, CloseSquare}
 use Rattle.tokens.specs.Tokens.{scanned}
+use Rattle.tokens.specs.Scans.{Scans}
 use Rattle.typed.specs.Grammar.{Typed, until, Rank, closest, implication, Reads, by_until, by_brackets, Spells}
-use Rattle.typed.specs.Parses.{part, behind, Parses, Ends, Ended, a_until, a_bracket}
+use Rattle.typed.specs.Parses.{part, behind, Parses, Ends, Ended, a_closest, a_until, a_bracket}
 use Rattle.typed.specs.Records.{formula_for}
 use Rattle.typed.proofs.Sizes.{size_pos}
 use Rattle.typed.proofs.Unique.{joined, same}
@@ -25,6 +27,10 @@ use Rattle.rules.proofs.Places.{spelled_on, behind_token}
 use Rattle.rules.proofs.Taken.{parsed}
 use Rattle.rules.proofs.Chained.{Joined, until_binary, pair_taken}
 use Rattle.rules.specs.declared.records.Entry.{Entry}
+
+-- another token was found
+pub missing : {text : List ℕ} {at : ℕ} {r : Found} {t : Token} → Scans text at r → (r.token ≡ t → ⊥) → Ends t (drop at text)
+missing s n z = n (s.found.token ∙ z)
 
 -- a part begins behind a token
 pub begins_behind : {text : List ℕ} {at next : ℕ} {s : Store} {t : Token} → Begins text at s → Stands text at t next → Begins text next s
@@ -63,7 +69,15 @@ record Bracketed (d : ℕ) (s : List ℕ) : Type 0 where
 behind_open : {d : ℕ} {s : List ℕ} {f : Typed} {r : List ℕ} → Parses (behind Open) d s f r → Bracketed d s
 behind_open (a_bracket {s₁ = s₁} {f = f} x e) = record { room = λ z. omega arith; tree = f; left = s₁; inner = simp unary_clauses x; closed = e }
 
+-- no bracket may be opened
+pub no_bracket : {room : ℕ} {s : List ℕ} → room ≡ 0 → (scanned s).token ≡ Open → Nothing closest room s
+no_bracket n e f s' (a_closest v x) = (behind_open (rw (sym v ∙ e) at x)).room n
+
 module _ {text : List ℕ} {room at next : ℕ} (w : Stands text at Open next) where
+  -- no rule stands behind the bracket
+  pub bracket_empty : Nothing implication (room - 1) (drop next text) → Nothing closest room (drop at text)
+  bracket_empty n f s x = let b = behind_open (behind_token w x) in n b.tree b.left b.inner
+
   module _ {height count : ℕ} {rs : List ℕ} {ps : List Entry} {p : Part} {rs' : List ℕ} {ps' : List Entry} (t : Takes text implication (room - 1) next height count rs ps p rs' ps') where
     -- a rule stands there, and the bracket isn't closed behind it
     pub bracket_open : Ended implication (drop p.next text) → Ends Close (drop p.next text) → Nothing closest room (drop at text)
@@ -119,12 +133,20 @@ behind_path (a_until {s₁ = s₁} {s₂ = s₂} {f = f} {g = g} e x u y z) =
       closed = z;
     }
 
+-- no bracket may be opened
+pub no_square : {q : Quantifier} {room : ℕ} {s : List ℕ} → room ≡ 0 → (scanned s).token ≡ Path q → Nothing closest room s
+no_square n e f s' (a_closest v x) = (behind_path (rw (sym v ∙ e) at x)).room n
+
 module _ {text : List ℕ} {room at start : ℕ} {q : Quantifier} (w : Stands text at (Path q) start) where
   -- no square bracket stands behind A or E
   pub square_missing : Ends OpenSquare (drop start text) → Nothing closest room (drop at text)
   square_missing n f s x = n (behind_path (behind_token w x)).opened
 
   module _ {next : ℕ} (o : Stands text start OpenSquare next) where
+    -- no rule stands behind the bracket
+    pub square_empty : Nothing implication (room - 1) (drop next text) → Nothing closest room (drop at text)
+    square_empty n f s x = let b = behind_path (behind_token w x) in n b.left b.middle (rw o.left at b.before)
+
     module _ {height count : ℕ} {rs : List ℕ} {ps : List Entry} {p : Part} {rs₁ : List ℕ} {ps₁ : List Entry} (l : Takes text implication (room - 1) next height count rs ps p rs₁ ps₁)
         (e : Ended implication (drop p.next text)) where
       -- the left rule ends where it was read to

@@ -1,5 +1,6 @@
 -- To read first: `Promise`, what the answer of the call means in the words of the text.
 -- records and pending entries
+pub mod Stores
 pub mod Pile
 pub mod Turned
 -- grades

@@ -1,12 +1,14 @@
 -- The pile of pending entries: entries below a height stay while the pile grows, and the records of a pile are those of its last entry and then those of the others.
 use mathlib.Core.Path.{◌≡◌, refl, sym, ap, ap₂, ◌∙◌}
+use mathlib.Core.Bool.{true, false}
 use mathlib.Core.List.{List, [], ◌∷◌, ◌++◌, append_assoc, append-nil}
-use Prim.Native.Nat.{ℕ, zero, suc, ◌+◌, ◌≤◌, ◌<◌}
+use Prim.Native.Nat.{ℕ, zero, suc, ◌+◌, ◌-◌, ◌≤◌, ◌<◌}
 use native.Mathlib.Omega.{arith}
 use lib.ListN.{length, take, length-append}
 use lib.Seq.{get_or-take, take-take}
+use Rattle.rules.specs.declared.records.Kind.{Kind}
 use Rattle.rules.specs.declared.records.Entry.{Entry}
-use Rattle.rules.specs.Making.{no_entry, below, entry, entries, closing, unwound}
+use Rattle.rules.specs.Making.{number, has_one, no_entry, below, entry, entries, closing, unwound}
 
 pub length_entries : (ps : List Entry) (h n : ℕ) → length (entries ps h n) ≡ n
 unfolding entries
@@ -45,3 +47,12 @@ unfolding entries
 entries_more ps h zero = ap (λ (i : ℕ). entry ps i ∷ []) (omega arith)
 entries_more ps h (suc n) =
     ap (λ (es : List Entry). entry ps h ∷ es) (entries_more ps (h + 1) n ∙ ap (λ (i : ℕ). entries ps (h + 1) n ++ (entry ps i ∷ [])) (omega arith))
+
+-- the record of AX and of AG, and that of the others
+pub closing_one : (kind : Kind) (a n : ℕ) → has_one kind ≡ true → closing (record { kind = kind; a = a }) n ≡ number kind ∷ (n - 1) ∷ 0 ∷ 0 ∷ []
+unfolding closing
+closing_one kind a n e = rw e
+
+pub closing_two : (kind : Kind) (a n : ℕ) → has_one kind ≡ false → closing (record { kind = kind; a = a }) n ≡ number kind ∷ a ∷ (n - 1) ∷ 0 ∷ []
+unfolding closing
+closing_two kind a n e = rw e

@@ -43,6 +43,8 @@ fn asked_grade(negations: bool, q: Quantifier) -> Grade
     }
 }
 
+// Not inlined, so that its loop has the registers to itself.
+#[inline(never)]
 pub fn read_prefixes(text: &[u8], from: usize, store: &mut Store) -> Prefixes
     requires { Begins text.now from store.old }
     ensures { Prefixing text.now from store.old result store.new }

@@ -2,7 +2,7 @@
 // `room` is how many brackets may still be opened. Each answers none where no such part stands.
 ghost use Rattle.std.specs.Prelude.{◌≡◌, false, ◌+◌, ◌≤◌, ◌<◌, ◌^◌, length, drop};
 ghost use Rattle.tokens.specs.Tokens.{scanned};
-ghost use Rattle.typed.specs.Grammar.{closest, implication};
+ghost use Rattle.typed.specs.Grammar.{closest, conjunction, implication};
 ghost use Rattle.rules.specs.Grades.{prefixed, worse};
 ghost use Rattle.rules.specs.Reading.{Begins, Reading, Leaf, Expecting, is_prefix};
 ghost use Rattle.rules.specs.Chains.{sign, whole, inner, kind_of};
@@ -12,7 +12,8 @@ use crate::records::{Kind, Store};
 use crate::{parts, prefixes};
 use tokens::{Quantifier, Token};
 
-// The place behind a token, where it is the first from `at` on.
+// The place behind a token, where it is the first from `at` on. Inlined, since each caller names its token.
+#[inline(always)]
 pub fn expect(text: &[u8], at: usize, token: Token) -> Option<usize>
     requires { (at ≤ length text.now) × (token ≡ Token.End → ⊥) }
     ensures { Expecting text.now at token result }
@@ -149,26 +150,18 @@ impl Connective {
     }
 }
 
-// A part of a chain: & joins closest parts, and | chains of those.
+// Closest parts joined by &.
 #[cycle(reading)]
-fn read_link(
-    chain: Connective,
-    text: &[u8],
-    at: usize,
-    room: usize,
-    store: &mut Store,
-) -> Option<Part>
+fn read_conjunction(text: &[u8], at: usize, room: usize, store: &mut Store) -> Option<Part>
     requires { Begins text.now at store.old }
-    ensures { Reading text.now (inner chain) room at store.old result store.new }
+    ensures { Reading text.now conjunction room at store.old result store.new }
 {
-    match chain {
-        Connective::And => read_closest(text, at, room, store),
-        Connective::Or => read_chain(Connective::And, text, at, room, store),
-    }
+    read_chain(Connective::And, text, at, room, store)
 }
 
-// Parts joined by & or by |.
+// Parts joined by & or by |: & joins closest parts, and | chains of those. Inlined, since each caller names its connective: so there are two loops, one inside the other.
 #[cycle(reading)]
+#[inline(always)]
 fn read_chain(
     chain: Connective,
     text: &[u8],
@@ -179,13 +172,24 @@ fn read_chain(
     requires { Begins text.now at store.old }
     ensures { Reading text.now (whole chain) room at store.old result store.new }
 {
-    let mut part = read_link(chain, text, at, room, store)?;
-    // From `at` on a chain is read.
-    while let Some(next) = expect(text, part.next, chain.sign()) {
-        let right = read_link(chain, text, next, room, store)?;
-        part = parts::join(store, chain.kind(), part, right);
+    let mut left = None;
+    let mut from = at;
+    // Left of `from` there is a chain and its sign, or nothing.
+    loop {
+        let right = match chain {
+            Connective::And => read_closest(text, from, room, store),
+            Connective::Or => read_conjunction(text, from, room, store),
+        }?;
+        let part = match left {
+            Some(left) => parts::join(store, chain.kind(), left, right),
+            None => right,
+        };
+        let Some(next) = expect(text, part.next, chain.sign()) else {
+            return Some(part);
+        };
+        left = Some(part);
+        from = next;
     }
-    Some(part)
 }
 
 // Disjunctions joined by ->. The left ones are negated, and wait for what stands behind them.

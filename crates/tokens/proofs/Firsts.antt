@@ -1,107 +1,113 @@
--- The first token from a place on, by what stands there.
+-- The first token from a place on, by the byte that stands there.
 use mathlib.Core.Path.{◌≡◌, refl, sym, ap, ◌∙◌}
 use mathlib.Core.Bool.{true, false}
-use mathlib.Core.List.{List, [], ◌∷◌}
+use mathlib.Core.List.{List}
 use Prim.Native.Nat.{ℕ, ◌+◌, ◌-◌, ◌≤◌, ◌<◌}
-use native.Mathlib.Decide.{ℕ_discrete}
 use native.Mathlib.Omega.{arith}
 use borrow.Author.Tests.{eq-eqb, ne_eqb}
-use lib.ListN.{length, take, drop, get_or}
-use Rattle.std.proofs.Common.{length-drop}
-use Rattle.std.proofs.lemmas.List.{drop-drop}
-use Rattle.layout.specs.Bytes.{part}
+use lib.ListN.{length, drop}
+use Rattle.layout.specs.Bytes.{byte, part}
 use Rattle.layout.proofs.Parts.{length_part}
+use Rattle.tokens.specs.declared.Found.{Found}
 use Rattle.tokens.specs.declared.Token.{Token}
-use Rattle.tokens.specs.declared.Token.TheVariants.{Implies, End}
+use Rattle.tokens.specs.declared.Token.TheVariants.{Implies, End, Wrong}
 use Rattle.tokens.specs.Tokens.{worded, run, behind_run, word_of, sign_of, Scanned, arrow, first, scanned}
-use Rattle.tokens.specs.Scans.{SpacesEnd, WordEnd, Scanning, Scans}
-use Rattle.tokens.proofs.Words.{rest_is}
+use Rattle.tokens.specs.Scans.{Onward, SpacesEnd, WordEnd, Scanning, Scans}
+use Rattle.tokens.proofs.Places.{left_more, left_none}
+use Rattle.tokens.proofs.Words.{run_more}
 
--- ---- where no space stands first
--- none at the end of the text
-first_end : (s : List ℕ) → length s < 1 → first s ≡ record { token = End; rest = s }
-unfolding first
-first_end [] h = refl
-first_end (b ∷ s) h = absurd (omega arith)
+module _ (text : List ℕ) where
+  -- the same found from an earlier place on
+  carried : (a b : ℕ) (r : Found) (found other : Scanned) → found ≡ other → a ≤ b → Scanning other text b r → Scanning found text a r
+  carried a b r found other e h s = record {
+    place = omega arith;
+    token = s.token ∙ ap (λ f. f.token) (sym e);
+    left = s.left ∙ ap (λ f. f.rest) (sym e);
+  }
 
--- an arrow
-first_arrow : (s : List ℕ) → 2 ≤ length s → get_or s 0 0 ≡ 45 → get_or s 1 0 ≡ 62 → first s ≡ record { token = Implies; rest = drop 2 s }
-unfolding first worded arrow
-first_arrow [] h e f = absurd (omega arith)
-first_arrow (b ∷ []) h e f = absurd (omega arith)
-first_arrow (b ∷ c ∷ s) h e f = rw (e, f)
+  -- a token and a place, as what was found
+  pub scans : (at : ℕ) (r : Found) (found : Scanned) → Onward text at r.next → found ≡ record { token = r.token; rest = drop r.next text } → Scanning found text at r
+  scans at r found p e = carried at at r found _ e (omega arith) (record { place = p; token = refl; left = refl })
 
--- a word
-first_word : (s : List ℕ) → 1 ≤ length s → worded (get_or s 0 0) ≡ true → first s ≡ record { token = word_of (run s); rest = behind_run s }
-unfolding first
-first_word [] h e = absurd (omega arith)
-first_word (b ∷ s) h e = rw e
+  -- behind the spaces
+  reached : (from at : ℕ) → SpacesEnd text from at → scanned (drop from text) ≡ first (drop at text)
+  unfolding scanned
+  reached from at s = ap first (sym s.left)
 
--- which is longer than nothing
-run_starts : (s : List ℕ) → 1 ≤ length s → worded (get_or s 0 0) ≡ true → 1 ≤ length (run s)
-unfolding run
-run_starts [] h e = absurd (omega arith)
-run_starts (b ∷ s) h e = rw e (omega arith)
+module _ (text : List ℕ) (at : ℕ) where
+  -- ---- behind a hyphen
+  -- an arrow's head
+  pub arrow_whole : at < length text → byte text at ≡ 62 → arrow (drop at text) ≡ record { token = Implies; rest = drop (at + 1) text }
+  unfolding arrow
+  arrow_whole h e = ap arrow (left_more text at h) ∙ rw (eq-eqb (byte text at) 62 e)
 
--- a hyphen that begins no arrow is a sign, which is wrong
-hyphen_alone : (s : List ℕ) → (1 ≤ length s → get_or s 0 0 ≡ 62 → ⊥) → arrow s ≡ record { token = sign_of 45; rest = s }
-unfolding arrow sign_of
-hyphen_alone [] n = refl
-hyphen_alone (c ∷ s) n = rw (ne_eqb c 62 (λ e. n (omega arith) e))
+  -- another byte
+  pub arrow_other : at < length text → (byte text at ≡ 62 → ⊥) → arrow (drop at text) ≡ record { token = Wrong; rest = drop at text }
+  unfolding arrow
+  arrow_other h n = rw (left_more text at h, ne_eqb (byte text at) 62 n)
 
--- a sign of one byte
-first_sign : (s : List ℕ) → 1 ≤ length s → worded (get_or s 0 0) ≡ false → (2 ≤ length s → get_or s 0 0 ≡ 45 → get_or s 1 0 ≡ 62 → ⊥) → first s ≡ record { token = sign_of (get_or s 0 0); rest = drop 1 s }
-unfolding first
-first_sign [] h e n = absurd (omega arith)
-first_sign (b ∷ s) h e n = elim (ℕ_discrete b 45) [
-  | yes y ↦ rw (e, eq-eqb b 45 y) (hyphen_alone s (λ l f. n (omega arith) y f) ∙ rw y)
-  | no o ↦ rw (e, ne_eqb b 45 o)
-]
+  -- nothing
+  pub arrow_over : length text ≤ at → arrow (drop at text) ≡ record { token = Wrong; rest = drop at text }
+  unfolding arrow
+  arrow_over h = rw (left_none text at h)
+
+  -- ---- where no space stands first
+  -- none at the end of the text
+  first_over : length text ≤ at → first (drop at text) ≡ record { token = End; rest = drop at text }
+  unfolding first
+  first_over h = rw (left_none text at h)
+
+  -- a word
+  first_word : at < length text → worded (byte text at) ≡ true → first (drop at text) ≡ record { token = word_of (run (drop at text)); rest = behind_run (drop at text) }
+  unfolding first
+  first_word h e = rw (left_more text at h, e)
+
+  -- which is longer than nothing
+  word_ahead : (r : ℕ) → WordEnd text at r → at < length text → worded (byte text at) ≡ true → at < r
+  word_ahead r w h e =
+      let l : at ≤ r = w.place.onward in
+      omega (arith, ap length w.word ∙ ap length (run_more text at h e), length_part text at (r - at) (omega arith))
+
+  -- what a hyphen begins
+  first_hyphen : at < length text → worded (byte text at) ≡ false → byte text at ≡ 45 → first (drop at text) ≡ arrow (drop (at + 1) text)
+  unfolding first
+  first_hyphen h e y = ap first (left_more text at h) ∙ rw (e, eq-eqb (byte text at) 45 y)
+
+  -- a sign of one byte
+  first_sign : at < length text → worded (byte text at) ≡ false → (byte text at ≡ 45 → ⊥) → first (drop at text) ≡ record { token = sign_of (byte text at); rest = drop (at + 1) text }
+  unfolding first
+  first_sign h e n = ap first (left_more text at h) ∙ rw (e, ne_eqb (byte text at) 45 n)
 
 -- ---- as the spaces end at a place
 module _ (text : List ℕ) (from at : ℕ) (spaces : SpacesEnd text from at) where
-  -- what stands behind them, as the code cuts it
-  abbrev s : List ℕ
-  s = take (length text - at) (drop at text)
+  -- the text's end
+  pub scans_end : length text ≤ at → Scans text from (record { token = End; next = at })
+  scans_end h = record {
+    found = scans text from _ _ spaces.place (reached text from at spaces ∙ first_over text at h);
+    ahead = λ n. absurd (n refl);
+  }
 
-  left : s ≡ drop at text
-  left = rest_is text at
+  -- a word
+  pub scans_word : at < length text → worded (byte text at) ≡ true → (end : ℕ) → WordEnd text at end → (t : Token) → t ≡ word_of (part text at (end - at)) → Scans text from (record { token = t; next = end })
+  scans_word h e end w t f = record {
+    found =
+        carried text from at _ _ _ (reached text from at spaces ∙ first_word text at h e) spaces.place.onward
+        (record { place = w.place; token = f ∙ ap word_of w.word; left = w.left });
+    ahead = λ n. omega (arith, word_ahead text at end w h e);
+  }
 
-  len : length s + at ≡ length text
-  len = omega (arith, ap length left, length-drop at text)
-
-  -- what was found, as a token and a place
-  found_at : (t : Token) (next : ℕ) → at ≤ next → next ≤ length text → (found : Scanned) → first s ≡ found → found.token ≡ t → found.rest ≡ drop next text → Scanning (scanned (drop from text)) text from (record { token = t; next = next })
-  unfolding scanned
-  found_at t next a b found e f g =
-      let whole : scanned (drop from text) ≡ found = ap first (sym (left ∙ spaces.left)) ∙ e in
-      record {
-        place = record { onward = omega arith; inside = b };
-        token = sym (ap (λ f. f.token) whole ∙ f);
-        left = sym (ap (λ f. f.rest) whole ∙ g);
-      }
-
-  -- so many bytes further
-  further : (k : ℕ) → drop k s ≡ drop (at + k) text
-  further k = ap (drop k) left ∙ drop-drop k at text
-
-  pub scans_end : length s < 1 → Scans text from (record { token = End; next = at })
-  scans_end h = record { found = found_at End at (omega arith) (omega (arith, len)) _ (first_end s h) refl left; ahead = λ n. absurd (n refl) }
-
-  pub scans_arrow : 2 ≤ length s → get_or s 0 0 ≡ 45 → get_or s 1 0 ≡ 62 → Scans text from (record { token = Implies; next = at + 2 })
-  scans_arrow h e f = record {
-    found = found_at Implies (at + 2) (omega arith) (omega (arith, len)) _ (first_arrow s h e f) refl (further 2);
+  -- a hyphen and what it begins
+  pub scans_arrow : at < length text → worded (byte text at) ≡ false → byte text at ≡ 45 → (r : Found) → Scanning (arrow (drop (at + 1) text)) text (at + 1) r → Scans text from r
+  scans_arrow h e y r s = record {
+    found = carried text from (at + 1) r _ _ (reached text from at spaces ∙ first_hyphen text at h e y) (omega arith) s;
     ahead = λ n. omega arith;
   }
 
-  pub scans_sign : 1 ≤ length s → worded (get_or s 0 0) ≡ false → (2 ≤ length s → get_or s 0 0 ≡ 45 → get_or s 1 0 ≡ 62 → ⊥) → (t : Token) → t ≡ sign_of (get_or s 0 0) → Scans text from (record { token = t; next = at + 1 })
+  -- a sign of one byte
+  pub scans_sign : at < length text → worded (byte text at) ≡ false → (byte text at ≡ 45 → ⊥) → (t : Token) → t ≡ sign_of (byte text at) → Scans text from (record { token = t; next = at + 1 })
   scans_sign h e n t f = record {
-    found = found_at t (at + 1) (omega arith) (omega (arith, len)) _ (first_sign s h e n) (sym f) (further 1);
+    found =
+        carried text from at _ _ _ (reached text from at spaces ∙ first_sign text at h e n) spaces.place.onward
+        (record { place = omega arith; token = f; left = refl });
     ahead = λ _. omega arith;
-  }
-
-  pub scans_word : 1 ≤ length s → worded (get_or s 0 0) ≡ true → (end : ℕ) → WordEnd text at end → (t : Token) → t ≡ word_of (part text at (end - at)) → Scans text from (record { token = t; next = end })
-  scans_word h e end w t f = record {
-    found = found_at t end w.place.onward w.place.inside _ (first_word s h e) (sym (f ∙ ap word_of (w.word ∙ ap run (sym left)))) (sym (w.left ∙ ap behind_run (sym left)));
-    ahead = λ n. omega (arith, w.place.onward, run_starts s h e, ap length (w.word ∙ ap run (sym left)), length_part text at (end - at) (omega arith));
   }

@@ -2,6 +2,7 @@
 pub mod Within
 pub mod Names
 pub mod Lengths
+pub mod Places
 pub mod Words
 pub mod Firsts
 pub mod Spelling

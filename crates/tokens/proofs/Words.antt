@@ -1,22 +1,19 @@
--- The spaces, and the letters and digits, at the front of what is left of a text, and what stands behind them, by how many there are.
+-- The letters and digits at the front of what is left of a text, and what stands behind them, by how many there are.
 use mathlib.Core.Path.{◌≡◌, refl, sym, ap, ◌∙◌}
 use mathlib.Core.Bool.{Bool, true, false, cond}
 use mathlib.Core.List.{List, [], ◌∷◌}
-use Prim.Native.Nat.{ℕ, suc, ◌+◌, ◌-◌, ◌≤◌}
+use Prim.Native.Nat.{ℕ, suc, ◌+◌, ◌-◌, ◌≤◌, ◌<◌}
 use native.Mathlib.Omega.{arith}
-use lib.Dec.{eqb}
 use lib.ListN.{length, take, drop}
 use Rattle.std.proofs.Math.Seq.{take-length}
 use Rattle.std.specs.List.{prefix_len}
 use Rattle.std.proofs.Common.{length-drop}
 use Rattle.std.proofs.lemmas.List.{drop-drop}
 use Rattle.std.proofs.lemmas.List.Sums.{prefix_len-le-length}
-use Rattle.layout.specs.Bytes.{part}
-use Rattle.tokens.specs.Tokens.{worded, run, behind_run, behind_spaces}
-use Rattle.tokens.specs.Scans.{SpacesEnd, WordEnd}
-
-abbrev pub is_space : ℕ → Bool
-is_space b = eqb b 32
+use Rattle.layout.specs.Bytes.{byte, part}
+use Rattle.tokens.specs.Tokens.{worded, run, behind_run}
+use Rattle.tokens.specs.Scans.{WordEnd}
+use Rattle.tokens.proofs.Places.{left_more}
 
 -- ---- one after another
 -- one more of those that pass, or none
@@ -38,23 +35,12 @@ unfolding behind_run
 behind_run_is [] = refl
 behind_run_is (b ∷ s) = left_step (worded b) b _ s _ (behind_run_is s)
 
-behind_spaces_is : (s : List ℕ) → behind_spaces s ≡ drop (prefix_len is_space s) s
-unfolding behind_spaces
-behind_spaces_is [] = refl
-behind_spaces_is (b ∷ s) = left_step (is_space b) b _ s _ (behind_spaces_is s)
-
 -- ---- from a place on
 -- what is left, as the code cuts it
 pub rest_is : (text : List ℕ) (at : ℕ) → take (length text - at) (drop at text) ≡ drop at text
 rest_is text at = ap (λ n. take n (drop at text)) (sym (length-drop at text)) ∙ take-length (drop at text)
 
 module _ (text : List ℕ) (at k : ℕ) (h : at ≤ length text) where
-  pub spaces_passed : k ≡ prefix_len is_space (drop at text) → SpacesEnd text at (at + k)
-  spaces_passed e = record {
-    place = record { onward = omega arith; inside = omega (arith, prefix_len-le-length is_space (drop at text), length-drop at text) };
-    left = sym (behind_spaces_is (drop at text) ∙ ap (λ n. drop n (drop at text)) (sym e) ∙ drop-drop k at text);
-  }
-
   pub word_passed : k ≡ prefix_len worded (drop at text) → WordEnd text at (at + k)
   word_passed e =
       let n : at + k - at ≡ prefix_len worded (drop at text) = omega (arith, e) in
@@ -63,3 +49,9 @@ module _ (text : List ℕ) (at k : ℕ) (h : at ≤ length text) where
         word = ap (part text at) n ∙ sym (run_is (drop at text));
         left = sym (behind_run_is (drop at text) ∙ ap (λ n. drop n (drop at text)) (sym e) ∙ drop-drop k at text);
       }
+
+-- ---- by the byte at a place
+-- a letter or a digit is the word's first
+pub run_more : (text : List ℕ) (at : ℕ) → at < length text → worded (byte text at) ≡ true → run (drop at text) ≡ byte text at ∷ run (drop (at + 1) text)
+unfolding run
+run_more text at h e = ap run (left_more text at h) ∙ rw e

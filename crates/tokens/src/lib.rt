@@ -2,8 +2,8 @@
 #![tactic(auto)]
 
 ghost use Rattle.std.specs.Prelude.{◌≡◌, ◌∷◌, ◌≤◌, length, drop};
-ghost use Rattle.tokens.specs.Tokens.{worded, operator_of, word_of, sign_of};
-ghost use Rattle.tokens.specs.Scans.{SpacesEnd, WordEnd, Scans};
+ghost use Rattle.tokens.specs.Tokens.{worded, operator_of, word_of, sign_of, arrow};
+ghost use Rattle.tokens.specs.Scans.{SpacesEnd, WordEnd, Scanning, Scans};
 
 use layout::sizes;
 
@@ -63,12 +63,12 @@ pub struct Found {
     pub next: usize,
 }
 
-// Whether a byte is a letter or a digit.
+// Whether a byte is a letter or a digit. Most signs stand below the digits, and are told by the first test.
 #[tactic(auto, unfolding(crate::specs::Tokens::worded))]
 fn is_worded(b: u8) -> bool
     ensures { result ≡ worded b }
 {
-    b.is_ascii_alphanumeric()
+    b'0' <= b && b.is_ascii_alphanumeric()
 }
 
 // The first place from `at` on that has no space.
@@ -76,7 +76,12 @@ fn spaces_end(text: &[u8], at: usize) -> usize
     requires { at ≤ length text.now }
     ensures { SpacesEnd text.now at result }
 {
-    at + text[at..].iter().take_while(|&&b| b == b' ').count()
+    let mut i = at;
+    // From `at` to i there are spaces.
+    while i < text.len() && text[i] == b' ' {
+        i += 1;
+    }
+    i
 }
 
 // The first place from `at` on that has no letter and no digit.
@@ -159,30 +164,46 @@ fn sign(b: u8) -> Token
     }
 }
 
+// What a hyphen in front of `at` begins.
+fn arrow_head(text: &[u8], at: usize) -> Found
+    requires { at ≤ length text.now }
+    ensures { Scanning (arrow (drop at text.now)) text.now at result }
+{
+    if at < text.len() && text[at] == b'>' {
+        return Found {
+            token: Token::Implies,
+            next: at + 1,
+        };
+    }
+    Found {
+        token: Token::Wrong,
+        next: at,
+    }
+}
+
 // The first token from `from` on.
 pub fn scan(text: &[u8], from: usize) -> Found
     requires { from ≤ length text.now }
     ensures { Scans text.now from result }
 {
     let at = spaces_end(text, from);
-    match &text[at..] {
-        [] => Found {
+    if at == text.len() {
+        return Found {
             token: Token::End,
             next: at,
-        },
-        [b'-', b'>', ..] => Found {
-            token: Token::Implies,
-            next: at + 2,
-        },
-        [b, ..] if is_worded(*b) => {
+        };
+    }
+    match text[at] {
+        b if is_worded(b) => {
             let next = word_end(text, at);
             Found {
                 token: word(&text[at..next]),
                 next,
             }
         }
-        [b, ..] => Found {
-            token: sign(*b),
+        b'-' => arrow_head(text, at + 1),
+        b => Found {
+            token: sign(b),
             next: at + 1,
         },
     }

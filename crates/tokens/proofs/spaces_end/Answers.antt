@@ -1,17 +1,23 @@
--- `spaces_end` meets its contract: the spaces that the chain counts are those at the front.
-use mathlib.Core.Path.{◌∙◌}
-use Rattle.std.proofs.Common.{rules, drop}
-use borrow.Author.Tests.{tests}
-use Rattle.std.proofs.lemmas.Iterator.{YieldsList-from_slice}
-use Rattle.std.proofs.lemmas.Iterator.Consumers.{count_from_yields_List, YieldsList-at}
-use Rattle.std.proofs.lemmas.Iterator.Search.{YieldsList-from_take_while}
-use Rattle.std.proofs.lemmas.List.Folds.{length-prefix_len}
-use Rattle.tokens.proofs.Words.{rest_is, is_space, spaces_passed}
+-- `spaces_end` meets its contract. The invariant: behind the spaces from i on stands what stands behind those from `at` on.
+use mathlib.Core.Path.{refl, sym, ◌∙◌}
+use native.Mathlib.Omega.{arith}
+use Rattle.tokens.proofs.Places.{space_passed, no_space, spaces_over}
 use Rattle.tokens.proofs.spaces_end.Goals as goal
 
-pub returns : goal.returns
-returns c =
-    spaces_passed _ _ _ c.requires
-    (count_from_yields_List _ _ c.count.ensures.ran
-    (YieldsList-from_take_while _ is_space (YieldsList-at c.take_while.ensures.source (YieldsList-from_slice _ (c.iter.ensures.rest ∙ rest_is c.args.text.now c.args.at))) c.take_while.ensures.closure c.take_while.ensures.done (λ x b q k. search (rules, tests)))
-    ∙ length-prefix_len is_space (drop c.args.at c.args.text.now))
+pub loop-i-init : goal.loop-i-init
+loop-i-init c = (omega arith, refl)
+
+pub loop-i-preserved : goal.loop-i-preserved
+loop-i-preserved c =
+    let l = c.loop-i in
+    (omega arith, sym (space_passed _ _ c.loop-i-test.true c.if-text-i-eq32.true) ∙ l.invariant.1)
+
+pub returns-else-text-i-eq32 : goal.returns-else-text-i-eq32
+returns-else-text-i-eq32 c =
+    let l = c.loop-i in
+    record { place = l.invariant.0; left = no_space _ _ c.loop-i-test.true c.if-text-i-eq32.false ∙ l.invariant.1 }
+
+pub returns-after-loop-i : goal.returns-after-loop-i
+returns-after-loop-i c =
+    let l = c.loop-i in
+    record { place = l.invariant.0; left = spaces_over _ _ c.loop-i-test.false ∙ l.invariant.1 }

@@ -1,6 +1,6 @@
 -- The readers meet their contracts, all in one: each by its own answers, at measures that fall with every call.
 use borrow.Author.Rules.{rules}
-use mathlib.Core.Path.{refl, sym, ap, ◌∙◌}
+use mathlib.Core.Path.{◌≡◌, refl, sym, ap, subst, ◌∙◌}
 use Prim.Native.Nat.{ℕ, ◌-◌}
 use native.Mathlib.Omega.{arith}
 use Rattle.tokens.specs.declared.Token.TheVariants.{Path, Open}
@@ -8,18 +8,23 @@ use Rattle.typed.specs.Grammar.{closest, implication}
 use Rattle.rules.specs.declared.parts.Grade.{Grade}
 use Rattle.rules.specs.declared.parts.Part.{Part}
 use Rattle.rules.specs.Grades.{worse}
-use Rattle.rules.specs.Reading.{Begun, Read, Stands}
-use Rattle.rules.specs.Chains.{sign}
+use Rattle.rules.specs.Reading.{Begun, Read, Nothing, Stands}
+use Rattle.rules.specs.Chains.{whole, inner, kind_of}
+use Rattle.rules.specs.Joins.{Joins}
+use Rattle.rules.specs.declared.readers.Connective.{Connective}
+use Rattle.rules.specs.declared.records.Store.{Store}
+use Rattle.rules.proofs.readers.+reading.Invariants.{Chaining, Linking}
+use Rattle.std.specs.Prelude.{Option, Some, None, List, drop}
 use Rattle.rules.proofs.Graded.{max_worse}
 use Rattle.rules.proofs.Places.{stands}
 use Rattle.rules.proofs.Begun.{at_first}
 use Rattle.rules.proofs.Taken.{NegatedIf, negated_so, negated_not, read_to_end}
 use Rattle.rules.proofs.Leaves.{name_read, true_read, false_read}
 use Rattle.rules.proofs.Enclosed.{begins_behind, begins_after, some_records, few_records, bracket_open, bracket_taken, square_missing, until_missing, until_empty, square_open, until_taken}
-use Rattle.rules.proofs.Chained.{right_of, joined_by, chain_of, chain_joined, chain_broken, chain_ended}
+use Rattle.rules.proofs.Chained.{right_of, joined_by, chain_of, chain_joined, chain_broken, chain_none, chain_ended}
 use Rattle.rules.proofs.Arrow.{arrow_begun, first_of, as_last}
 use Rattle.rules.proofs.readers.+reading.Goals as goal
-use Rattle.rules.proofs.readers.+reading.Goals.{read_closest-then-begun, read_closest-else-begun, read_bracketed-After-scan-open, read_bracketed-In_ok-part, read_chain-In-Some, read_closest-After-read_prefixes-begun, read_implication-In_ok-part, read_until-After-scan-path, read_until-In_ok-left, read_until-In_ok-right}
+use Rattle.rules.proofs.readers.+reading.Goals.{read_chain-in-And, read_chain-in-Or, read_chain-in-Some, read_chain-in-None, read_chain-In_ok-right, read_chain-In_err-right, read_chain-After-sign, read_closest-then-begun, read_closest-else-begun, read_bracketed-After-scan-open, read_bracketed-In_ok-part, read_closest-After-read_prefixes-begun, read_implication-In_ok-part, read_until-After-scan-path, read_until-In_ok-left, read_until-In_ok-right}
 
 -- ---- read_atom: a name or a constant is read here
 pub read_atom-returns-in-Name : goal.read_atom-returns-in-Name
@@ -106,47 +111,73 @@ read_closest-returns t c =
     read_to_end (prefixed at.After-read_prefixes-begun) c.in_ok-part.ensures tt n c.unwind.ensures c.prefixed_grade.ensures
 
 -- ---- read_chain: parts joined by & or by |
-pub read_chain-loop-next-init : goal.read_chain-loop-next-init
-read_chain-loop-next-init t c =
-    let p = c.in_ok-part.ensures in
-    record { chained = chain_of c.args.chain p.takes p.ends; count = p.count; height = p.height }
+-- a part was read at `from`
+link_read : {t : ℕ} → (c : read_chain-In_ok-right t) → let a = c.args in Read a.text.now (inner a.chain) a.room c.loop-store.from c.loop-store.store c.in_ok-right.right c.match-chain.store
+link_read c = elim c.match-chain.branch [
+  | read_chain-in-And w ↦ rw (w.in-And.is, w.store-is) (rw (← w.branch'-is, c.in_ok-right.was) at w.read_closest.ensures)
+  | read_chain-in-Or w ↦ rw (w.in-Or.is, w.store-is) (rw (← w.branch'-is, c.in_ok-right.was) at w.read_conjunction.ensures)
+]
 
--- the sign stands behind the chain
-sign_behind : {t : ℕ} → (c : read_chain-In-Some t) → Stands c.args.text.now c.loop-next.part.next (sign c.args.chain) c.in-Some.next
-sign_behind c = rw c.sign.ensures at c.in-Some.ensures
+-- or none stands there
+link_missing : {t : ℕ} → (c : read_chain-In_err-right t) → let a = c.args in Nothing (inner a.chain) a.room (drop c.loop-store.from a.text.now)
+link_missing c = elim c.match-chain.branch [
+  | read_chain-in-And w ↦ rw w.in-And.is (rw (← w.branch'-is, c.in_err-right.was) at w.read_closest.ensures)
+  | read_chain-in-Or w ↦ rw w.in-Or.is (rw (← w.branch'-is, c.in_err-right.was) at w.read_conjunction.ensures)
+]
 
--- no part stands behind the sign
+-- by what is left of it
+module _ (c : Connective) (text : List ℕ) (room at from : ℕ) (s₀ s : Store) where
+  -- where none stands there, no chain stands here
+  none_linked : (left : Option Part) → Linking c text room at s₀ from left s → Nothing (inner c) room (drop from text) → Nothing (whole c) room (drop at text)
+  none_linked (Some p) i n = chain_broken c i.0.chained i.1 n
+  none_linked None i n = chain_none c (subst (λ (k : ℕ). Nothing (inner c) room (drop k text)) i.0 n)
+
+  -- the part begins a chain
+  linked_first : (p : Part) (s' : Store) → (from ≡ at) × (s ≡ s₀) → Read text (inner c) room from s p s' → Chaining c text room at s₀ p s'
+  linked_first p s' i r =
+      let q : Read text (inner c) room at s₀ p s' = rw (i.0, i.1) at r in
+      record { chained = chain_of c q.takes q.ends; count = q.count; height = q.height }
+
+  -- or is joined to it
+  linked_more : (p q j : Part) (s₁ s₂ : Store) → Linking c text room at s₀ from (Some p) s → Read text (inner c) room from s q s₁ → Joins (kind_of c) p q s₁ j s₂ → Chaining c text room at s₀ j s₂
+  linked_more p q j s₁ s₂ i r x = record {
+    chained = chain_joined c i.0.chained i.1 r i.0.count i.0.height x;
+    count = omega (arith, x.adds.counted, r.count, ap (λ (k : Part). k.count) x.part);
+    height = x.adds.height ∙ r.height ∙ i.0.height;
+  }
+
 pub read_chain-returns-in_err-right : goal.read_chain-returns-in_err-right
 read_chain-returns-in_err-right t c =
-    rw c.from_residual-in_err-right.ensures
-    (chain_broken c.args.chain c.loop-next.invariant.chained (sign_behind (goal.at.read_chain-returns-in_err-right t c).In-Some) c.in_err-right.ensures)
+    rw c.from_residual.ensures (none_linked _ _ _ _ _ _ _ c.loop-store.left c.loop-store.invariant (link_missing (goal.at.read_chain-returns-in_err-right t c).In_err-right))
 
 pub read_chain-join-part-requires : goal.read_chain-join-part-requires
 read_chain-join-part-requires t c =
-    let i = c.loop-next.invariant in
-    let l = i.chained.taken in
-    let r = c.in_ok-right.ensures in
+    let i = rw c.in-Some.is at c.loop-store.invariant in
+    let l = i.0.chained.taken in
+    let r = link_read (goal.at.read_chain-join-part-requires t c).In_ok-right in
     let q = r.takes in
-    let w = sign_behind (goal.at.read_chain-join-part-requires t c).In-Some in
-    (some_records l, some_records q, sym r.count, omega (arith, l.slim, q.slim, i.count, i.height, c.requires.slim, q.inside, w.ahead))
+    let w = i.1 in
+    (some_records l, some_records q, sym r.count, omega (arith, l.slim, q.slim, i.0.count, i.0.height, c.requires.slim, q.inside, w.ahead))
 
-pub read_chain-loop-next-preserved : goal.read_chain-loop-next-preserved
-read_chain-loop-next-preserved t c =
-    let i = c.loop-next.invariant in
-    let r = c.in_ok-right.ensures in
-    let w = sign_behind (goal.at.read_chain-loop-next-preserved t c).In-Some in
-    let j = c.join-part.ensures in
-    record {
-      chained = chain_joined c.args.chain i.chained w r i.count i.height (rw c.kind.ensures at j);
-      count = omega (arith, j.adds.counted, r.count, ap (λ (p : Part). p.count) j.part);
-      height = j.adds.height ∙ r.height ∙ i.height;
-    }
+-- the chain that is read then
+chain_read : {t : ℕ} → (c : read_chain-After-sign t) → let a = c.args in Read a.text.now (inner a.chain) a.room c.loop-store.from c.loop-store.store c.in_ok-right.right c.match-chain.store
+    → Chaining a.chain a.text.now a.room a.at a.store.now c.match-left.part c.match-left.store
+chain_read c r = elim c.match-left.branch [
+  | read_chain-in-Some w ↦ rw (w.store-is, w.part-is) (linked_more _ _ _ _ _ _ _ w.in-Some.left _ _ _ _ (rw w.in-Some.is at c.loop-store.invariant) r (rw w.kind.ensures at w.join-part.ensures))
+  | read_chain-in-None w ↦ rw (w.store-is, w.part-is) (linked_first _ _ _ _ _ _ _ _ _ (rw w.in-None.is at c.loop-store.invariant) r)
+]
 
 -- the chain ends where another token stands
-pub read_chain-returns : goal.read_chain-returns
-read_chain-returns t c =
-    let i = c.loop-next.invariant in
+pub read_chain-returns-in_default : goal.read_chain-returns-in_default
+read_chain-returns-in_default t c =
+    let at = goal.at.read_chain-returns-in_default t c in
+    let i = chain_read at.After-sign (link_read at.In_ok-right) in
     record { takes = i.chained.taken; ends = chain_ended c.args.chain i.chained (rw c.sign.ensures at c.in_default.ensures); count = i.count; height = i.height }
+
+pub read_chain-loop-store-preserved : goal.read_chain-loop-store-preserved
+read_chain-loop-store-preserved t c =
+    let at = goal.at.read_chain-loop-store-preserved t c in
+    (chain_read at.After-sign (link_read at.In_ok-right), rw c.sign.ensures at c.in-Some-expect.ensures)
 
 -- ---- read_implication: disjunctions joined by ->, of which all but the last wait for it
 pub read_implication-loop-part-init : goal.read_implication-loop-part-init

@@ -9,30 +9,32 @@ use Rattle.rules.specs.declared.parts.Grade.{Grade}
 use Rattle.rules.specs.declared.parts.Part.{Part}
 use Rattle.rules.specs.declared.readers.Connective.{Connective}
 use Rattle.rules.specs.declared.records.Store.{Store}
-use Rattle.rules.specs.Reading.{Begun}
-use Rattle.rules.proofs.Chained.{Chained, inner_place}
+use Rattle.rules.specs.Reading.{Begun, Stands}
+use Rattle.rules.specs.Chains.{sign}
+use Rattle.std.specs.Prelude.{Option, Some, None}
+use Rattle.rules.proofs.Chained.{Chained, place}
 use Rattle.rules.proofs.readers.+reading.Given as goal
 
 abbrev pub decreases-read_until : goal.decreases-read_until
-decreases-read_until l = 9 * l.room + 1
+decreases-read_until l = 7 * l.room
 
 abbrev pub decreases-read_bracketed : goal.decreases-read_bracketed
-decreases-read_bracketed l = 9 * l.room + 1
+decreases-read_bracketed l = 7 * l.room
 
 abbrev pub decreases-read_atom : goal.decreases-read_atom
-decreases-read_atom l = 9 * l.room + 2
+decreases-read_atom l = 7 * l.room + 1
 
 abbrev pub decreases-read_closest : goal.decreases-read_closest
-decreases-read_closest l = 9 * l.room + 3
+decreases-read_closest l = 7 * l.room + 2
 
-abbrev pub decreases-read_link : goal.decreases-read_link
-decreases-read_link l = 9 * l.room + inner_place l.chain
+abbrev pub decreases-read_conjunction : goal.decreases-read_conjunction
+decreases-read_conjunction l = 7 * l.room + 4
 
 abbrev pub decreases-read_chain : goal.decreases-read_chain
-decreases-read_chain l = 9 * l.room + inner_place l.chain + 1
+decreases-read_chain l = 7 * l.room + place l.chain
 
 abbrev pub decreases-read_implication : goal.decreases-read_implication
-decreases-read_implication l = 9 * l.room + 8
+decreases-read_implication l = 7 * l.room + 6
 
 -- from `at` on a chain was read
 pub record Chaining (c : Connective) (text : List ℕ) (room at : ℕ) (s₀ : Store) (p : Part) (s : Store) : Type 0 where
@@ -40,11 +42,16 @@ pub record Chaining (c : Connective) (text : List ℕ) (room at : ℕ) (s₀ : S
   pub count : s.count ≡ p.count
   pub height : s.height ≡ s₀.height
 
-abbrev pub invariant-read_chain-loop-next : goal.invariant-read_chain-loop-next
-invariant-read_chain-loop-next l = Chaining l.chain l.text l.room l.at l.fn.store l.part l.store
+-- and the sign behind it, up to `from`; or nothing
+abbrev pub Linking : Connective → List ℕ → ℕ → ℕ → Store → ℕ → Option Part → Store → Type 0
+Linking c text room at s₀ from (Some p) s = Chaining c text room at s₀ p s × Stands text p.next (sign c) from
+Linking c text room at s₀ from None s = (from ≡ at) × (s ≡ s₀)
 
-abbrev pub decreases-read_chain-loop-next : goal.decreases-read_chain-loop-next
-decreases-read_chain-loop-next l = length l.text - l.part.next
+abbrev pub invariant-read_chain-loop-store : goal.invariant-read_chain-loop-store
+invariant-read_chain-loop-store l = Linking l.chain l.text l.room l.at l.fn.store l.from l.left l.store
+
+abbrev pub decreases-read_chain-loop-store : goal.decreases-read_chain-loop-store
+decreases-read_chain-loop-store l = length l.text - l.from
 
 -- from `at` to `from` an implication is begun
 pub record Implying (text : List ℕ) (room at : ℕ) (s₀ : Store) (from : ℕ) (g : Grade) (s : Store) : Type 0 where
