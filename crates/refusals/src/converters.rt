@@ -81,11 +81,12 @@ fn transition_right(t: Transition, n: usize) -> bool
 }
 
 // Whether the events of place k stand at no earlier place.
-fn events_fresh(r: Record, k: usize) -> bool
+fn events_fresh(r: &Record, k: usize) -> bool
     requires { k < place_count }
-    ensures { result ≡ every k (λ j. not (same_events (get_or r.places j no_transition).events (get_or r.places k no_transition).events)) }
+    ensures { result ≡ every k (λ j. not (same_events (get_or r.now.places j no_transition).events (get_or r.now.places k no_transition).events)) }
 {
-    (0..k).all(|j| r.places[j].events != r.places[k].events)
+    let events = r.places[k].events;
+    (0..k).all(|j| r.places[j].events != events)
 }
 
 // Whether a record by itself is right, among n (11).
@@ -95,7 +96,7 @@ fn node_right(r: Record, n: usize) -> bool
     let count = usize::from(r.count);
     names_right(r.names)
         && (1..=sizes::PLACES).contains(&count)
-        && (0..count).all(|k| transition_right(r.places[k], n) && events_fresh(r, k))
+        && (0..count).all(|k| transition_right(r.places[k], n) && events_fresh(&r, k))
 }
 
 // Whether the byte between the events and the next record is zero in each of the first n places of the record at `at`.

@@ -13,11 +13,12 @@ use layout::{events, sizes};
 // ---- 5
 
 // Whether the event of place k stands at no earlier place.
-fn event_fresh(q: StateRecord, k: usize) -> bool
+fn event_fresh(q: &StateRecord, k: usize) -> bool
     requires { k < place_count }
-    ensures { result ≡ every k (λ j. not (same_event (get_or q.places j no_place).event (get_or q.places k no_place).event)) }
+    ensures { result ≡ every k (λ j. not (same_event (get_or q.now.places j no_place).event (get_or q.now.places k no_place).event)) }
 {
-    (0..k).all(|j| q.places[j].event != q.places[k].event)
+    let event = q.places[k].event;
+    (0..k).all(|j| q.places[j].event != event)
 }
 
 // A state of a side that has n: 1 to 8 transitions, events in range and none twice, targets that are states.
@@ -28,7 +29,7 @@ pub fn state_right(q: StateRecord, n: usize) -> bool
     (1..=sizes::PLACES).contains(&count)
         && (0..count).all(|k| {
             let m = q.places[k];
-            events::in_range(m.event) && event_fresh(q, k) && usize::from(m.target) < n
+            events::in_range(m.event) && event_fresh(&q, k) && usize::from(m.target) < n
         })
 }
 

@@ -14,7 +14,7 @@ use Rattle.refusals.proofs.converters.events_fresh.Goals as goal
 
 pub returns : goal.returns
 returns c =
-    let ps = c.args.r.places in
+    let ps = c.args.r.now.places in
     let here = (get_or ps c.args.k no_transition).events in
     let apart : ℕ → Bool = λ j. not (pointwise int_eq (get_or ps j no_transition).events here) in
     every_from_all apart c.args.k _ _ _ c.all.ensures.ran (cc) (λ x b q k. search (rules, tests))
