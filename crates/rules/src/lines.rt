@@ -46,7 +46,10 @@ pub fn read_lines(text: &[u8], store: &mut Store, rules: &mut [u8]) -> Option<Te
     // The lines before `at` are read.
     while at < text.len() {
         let part = readers::read_implication(text, at, MOST_DEPTH, store)?;
-        at = readers::expect(text, part.next, Token::Line)?;
+        let Some(next) = readers::expect(text, part.next, Token::Line) else {
+            return None;
+        };
+        at = next;
         put_rule(rules, read.rules, part.count - 1);
         read.rules += 1;
         read.count = part.count;

@@ -1,6 +1,6 @@
 -- `take_first` meets its contract. The invariant: the first transition that fits is the first of those behind the k that were tried.
 use mathlib.Core.Path.{◌≡◌, refl, sym, ap, ◌∙◌}
-use Prim.Native.Nat.{◌<◌}
+use Prim.Native.Nat.{ℕ, ◌<◌}
 use native.Mathlib.Omega.{arith}
 use borrow.Author.Rules.{rules}
 use lib.ListN.{length, get_or}
@@ -14,7 +14,7 @@ use Rattle.layout.specs.Converters.{records, converter}
 use Rattle.layout.proofs.Nodes.{WellFormedNode}
 use Rattle.refusals.specs.Answered.{done}
 use Rattle.refusals.proofs.Accepted.{events_length, right_well_formed}
-use Rattle.runner.specs.Ticks.{taken}
+use Rattle.runner.specs.Ticks.{Ticked, taken}
 use Rattle.runner.proofs.FirstFit.{fits_here, fits_later, fits_nowhere}
 use Rattle.runner.proofs.take_first.Goals as goal
 use Rattle.runner.proofs.take_first.Goals.{After-duals-events, After-fits_events, In-loop-k, Start}
@@ -59,6 +59,13 @@ made c = c.duals-events.ensures ∙ ap side_events c.edge_at-t.ensures
 asked : (c : After-fits_events) → c.fits_events.result ≡ all_fit c.args.shown (side_events (edge (node (converter c.args.s.now) c.args.c) c.loop-k.k))
 asked c = c.fits_events.ensures ∙ ap (all_fit c.args.shown) (c.duals-events.ensures ∙ ap side_events c.edge_at-t.ensures)
 
+-- done, at a record and with these events delivered
+abbrev done_at : ℕ → Event → Event → Event → Ticked
+done_at n x y z = record { answer = done tt; runner = record { «record» = n; first = x; second = y; third = z } }
+
+done_by : {m n : ℕ} {x x' y y' z z' : Event} → m ≡ n → x ≡ x' → y ≡ y' → z ≡ z' → done_at m x y z ≡ done_at n x' y' z'
+done_by e f g h = λ i. done_at (e i) (f i) (g i) (h i)
+
 pub returns-then-fits_events : goal.returns-then-fits_events
 unfolding taken
 returns-then-fits_events c =
@@ -70,8 +77,8 @@ returns-then-fits_events c =
     let first : again (get_or q 0 tick) ≡ get_or q 0 tick = search rules in
     let second : again (get_or q 1 tick) ≡ get_or q 1 tick = search rules in
     let third : again (get_or q 2 tick) ≡ get_or q 2 tick = search rules in
-    (λ i. record { answer = done tt; runner = record { «record» = next i; first = first i; second = second i; third = third i } })
-    ∙ ap (λ es. record { answer = done tt; runner = record { «record» = (tried (goal.at.returns-then-fits_events c).In-loop-k).next; first = get_or es 0 tick; second = get_or es 1 tick; third = get_or es 2 tick } }) m
+    done_by (grind (arith, next)) first second third
+    ∙ ap (λ es. done_at (tried (goal.at.returns-then-fits_events c).In-loop-k).next (get_or es 0 tick) (get_or es 1 tick) (get_or es 2 tick)) m
     ∙ sym (ap (taken c.args.runner) p)
 
 pub loop-k-preserved : goal.loop-k-preserved

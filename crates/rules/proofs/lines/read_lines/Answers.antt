@@ -23,11 +23,11 @@ pub returns-in_err-part : goal.returns-in_err-part
 returns-in_err-part c = rw c.from_residual.ensures (lined_wrong c.loop-at.invariant.lined c.loop-at-test.true c.in_err-part.ensures)
 
 -- something else stands behind the rule
-pub returns-in_err-at : goal.returns-in_err-at
-returns-in_err-at c =
+pub returns-in_default : goal.returns-in_default
+returns-in_default c =
     let i = c.loop-at.invariant in
     let p = c.in_ok-part.ensures in
-    rw c.from_residual-in_err-at.ensures (lined_broken i.lined c.loop-at-test.true (right_of i.count i.height p) p.ends c.in_err-at.ensures)
+    lined_broken i.lined c.loop-at-test.true (right_of i.count i.height p) p.ends c.in_default.ensures
 
 pub overflow_sub-part : goal.overflow_sub-part
 overflow_sub-part c = some_records c.in_ok-part.ensures.takes
@@ -38,7 +38,7 @@ loop-at-preserved c =
     let p = c.in_ok-part.ensures in
     record {
       lined =
-          lined_more i.lined c.loop-at-test.true (right_of i.count i.height p) p.ends c.in_ok-at.ensures c.put_rule.ensures
+          lined_more i.lined c.loop-at-test.true (right_of i.count i.height p) p.ends c.in-Some.ensures c.put_rule.ensures
           (c.max-read.ensures ∙ max_worse c.loop-at.read.grade c.in_ok-part.part.grade);
       all_rules = c.put_rule.auto.rules ∙ i.all_rules;
       count = p.count;
